@@ -1,0 +1,9 @@
+pub mod Rows
+pub mod Trees
+pub mod Meaning
+pub mod Rules
+pub mod Types
+pub mod Moves
+pub mod Cells
+pub mod Promises
+pub mod Examples

@@ -1,0 +1,5 @@
+pub mod Copies
+pub mod Slices
+pub mod Admits
+pub mod Grown
+pub mod Cells
