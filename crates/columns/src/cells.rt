@@ -95,6 +95,14 @@ fn look(bytes: &[u8], r: Record, j: u64) -> Step<'_>
     }
 }
 
+// What row i of a record comes to.
+fn look_at_row(bytes: &[u8], r: Record, i: u64) -> Step<'_>
+    requires { ⌜ Readable (now bytes) r (r .start + i) ⌝ }
+    ensures { λ s. ⌜ stepped s ≡ step (now (bytes .entry)) r (r .start + i) ⌝ }
+{
+    look(bytes, r, r.start + i)
+}
+
 // Kind 1, 2 or 3.
 fn has_values(kind: u64) -> bool
     ensures { λ v. ⌜ v ≡ leadsOn (kindOf kind) false ⌝ }
@@ -134,7 +142,7 @@ pub fn find<'m>(records: &[Record], bytes: &'m [u8], q: usize, row: u64) -> Cell
     let mut i = row;
     for p in q..records.len() {
         let r = records[p];
-        match look(bytes, r, r.start + i) {
+        match look_at_row(bytes, r, i) {
             Step::Here(cell) => return cell,
             Step::Child(row) => i = row,
         }
@@ -148,7 +156,7 @@ pub fn value(bytes: &[u8], r: Record, i: u64) -> Option<&[u8]>
     requires readable { ⌜ Readable (now bytes) r (r .start + i) ⌝ }
     ensures { λ v. ⌜ valueRow v ≡ rowOf (now (bytes .entry)) r (λ k. []) i ⌝ }
 {
-    match look(bytes, r, r.start + i) {
+    match look_at_row(bytes, r, i) {
         Step::Here(Cell::Bytes { part, .. }) => Some(part),
         _ => None,
     }

@@ -44,10 +44,12 @@ all-movable bs rs d ok h =
 pub admit-grown : (s : Store) (rs : List Record) (bs : List ℕ) (base : ℕ) (R : List Record) (B : List ℕ)
     → Right bs rs 0 → base ≡ nextPlace (s .marks .bytes)
     → R ≡ put (s .marks .records) (map (moved base) (take (recAt rs 0 .span) rs)) (s .records)
-    → B ≡ put (s .marks .bytes) (replicate (base - s .marks .bytes) 0 ++ bs) (s .bytes)
+    → s .marks .bytes ≤ length (s .bytes) → B ≡ put base bs (put (s .marks .bytes) (replicate (base - s .marks .bytes) 0) (s .bytes))
     → store R B (record { records = s .marks .records + recAt rs 0 .span; bytes = base + length bs })
     ≡ grown s (admitted (s .marks .bytes) rs) (admittedBytes (s .marks .bytes) bs)
-admit-grown s rs bs base R B ok e r b =
+admit-grown s rs bs base R B ok e r fit both =
+    let up : s .marks .bytes ≤ base = omega arith in
+    let b : B ≡ put (s .marks .bytes) (replicate (base - s .marks .bytes) 0 ++ bs) (s .bytes) = both ∙ zeros-and-data (s .bytes) bs (s .marks .bytes) base up fit in
     let m : ℕ = s .marks .bytes in
     let l = length-map (take (recAt rs 0 .span) rs) (moved (nextPlace (s .marks .bytes))) in
     let t = length-take-le (recAt rs 0 .span) rs (omega (arith, ok .inside)) in

@@ -150,7 +150,7 @@ fn write_moved(records: &mut [Record], column: &[Record], d: u64, at: usize)
 // Zeros from `at` up to `base`, and then the data.
 fn write_data(bytes: &mut [u8], source: &[u8], at: usize, base: usize)
     requires { ⌜ at ≤ base ⌝ ∗ ⌜ base + length (now source) ≤ length (now bytes) ⌝ }
-    ensures { λ _. ⌜ now (bytes .exit) ≡ put at (replicate (base - at) 0 ++ now (source .entry)) (now (bytes .entry)) ⌝ }
+    ensures { λ _. ⌜ now (bytes .exit) ≡ put base (now (source .entry)) (put at (replicate (base - at) 0) (now (bytes .entry))) ⌝ }
 {
     put_zeros(bytes, at, base - at);
     put_slice(bytes, base, source);

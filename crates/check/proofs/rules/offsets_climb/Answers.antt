@@ -27,7 +27,7 @@ loop-k-again g c =
     let x = c .args .r .start + c .loop-k .k in
     let t = some-of (both (notNegative (g .I·Index .minus) (c .args .r .width) (f x)) (leb (c .loop-k .last) (f x))) (f x) (c .in-Some .next) (sym (c .number-from .ensures) ∙ c .in-Some .is) in
     ap (λ y. climbs (g .I·Index .minus) (c .args .r .width) (c .args .most) y (map f (counting (c .args .r .start + (c .loop-k .k + 1)) (c .args .r .length + 1 - (c .loop-k .k + 1))))) (sym (t .1))
-    ∙ chain-more (λ a x. both (notNegative (g .I·Index .minus) (c .args .r .width) x) (leb a x)) (climbs (g .I·Index .minus) (c .args .r .width) (c .args .most)) (λ a x xs. refl) f (c .loop-k .last) (c .args .r .start + c .loop-k .k) (c .args .r .start + (c .loop-k .k + 1)) (c .args .r .length + 1 - c .loop-k .k) (c .args .r .length + 1 - (c .loop-k .k + 1)) (turn (c .args .r .start) (c .loop-k .k) (c .args .r .length + 1) (c .loop-k-test .taken)) (t .0)
+    ∙ chain-more (λ a x. both (notNegative (g .I·Index .minus) (c .args .r .width) x) (leb a x)) (climbs (g .I·Index .minus) (c .args .r .width) (c .args .most)) (λ a x xs. refl) f (c .loop-k .last) (c .args .r .start + c .loop-k .k) (c .args .r .start + (c .loop-k .k + 1)) (c .args .r .length + 1 - c .loop-k .k) (c .args .r .length + 1 - (c .loop-k .k + 1)) (turn (c .args .r .start) (c .loop-k .k) (c .args .r .length + 1) (omega arith)) (t .0)
     ∙ c .loop-k .inv
 
 pub returns-in-None : need.returns-in-None
@@ -36,4 +36,4 @@ returns-in-None g c =
     let x = c .args .r .start + c .loop-k .k in
     let t = none-of (both (notNegative (g .I·Index .minus) (c .args .r .width) (f x)) (leb (c .loop-k .last) (f x))) (f x) (sym (c .number-from .ensures) ∙ c .in-None .is) in
     sym (sym (c .loop-k .inv)
-    ∙ chain-stop (λ a x. both (notNegative (g .I·Index .minus) (c .args .r .width) x) (leb a x)) (climbs (g .I·Index .minus) (c .args .r .width) (c .args .most)) (λ a x xs. refl) f (c .loop-k .last) (c .args .r .start + c .loop-k .k) (c .args .r .start + (c .loop-k .k + 1)) (c .args .r .length + 1 - c .loop-k .k) (c .args .r .length + 1 - (c .loop-k .k + 1)) (turn (c .args .r .start) (c .loop-k .k) (c .args .r .length + 1) (c .loop-k-test .taken)) t)
+    ∙ chain-stop (λ a x. both (notNegative (g .I·Index .minus) (c .args .r .width) x) (leb a x)) (climbs (g .I·Index .minus) (c .args .r .width) (c .args .most)) (λ a x xs. refl) f (c .loop-k .last) (c .args .r .start + c .loop-k .k) (c .args .r .start + (c .loop-k .k + 1)) (c .args .r .length + 1 - c .loop-k .k) (c .args .r .length + 1 - (c .loop-k .k + 1)) (turn (c .args .r .start) (c .loop-k .k) (c .args .r .length + 1) (omega arith)) t)

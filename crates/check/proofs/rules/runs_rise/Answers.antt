@@ -27,7 +27,7 @@ loop-k-again g c =
     let x = c .loop-k .k in
     let t = some-of (both (notNegative (g .I·Index .minus) (c .args .r .width) (f x)) (ltb (c .loop-k .last) (f x))) (f x) (c .in-Some .next) (sym (c .number-above .ensures) ∙ c .in-Some .is) in
     ap (λ y. rising (g .I·Index .minus) (c .args .r .width) (c .args .end) y (map f (counting (c .loop-k .k + 1) (c .args .r .count - (c .loop-k .k + 1))))) (sym (t .1))
-    ∙ chain-more (λ a x. both (notNegative (g .I·Index .minus) (c .args .r .width) x) (ltb a x)) (rising (g .I·Index .minus) (c .args .r .width) (c .args .end)) (λ a x xs. refl) f (c .loop-k .last) (c .loop-k .k) (c .loop-k .k + 1) (c .args .r .count - c .loop-k .k) (c .args .r .count - (c .loop-k .k + 1)) (turn-at (c .loop-k .k) (c .args .r .count) (c .loop-k-test .taken)) (t .0)
+    ∙ chain-more (λ a x. both (notNegative (g .I·Index .minus) (c .args .r .width) x) (ltb a x)) (rising (g .I·Index .minus) (c .args .r .width) (c .args .end)) (λ a x xs. refl) f (c .loop-k .last) (c .loop-k .k) (c .loop-k .k + 1) (c .args .r .count - c .loop-k .k) (c .args .r .count - (c .loop-k .k + 1)) (turn-at (c .loop-k .k) (c .args .r .count) (omega arith)) (t .0)
     ∙ c .loop-k .inv
 
 pub returns-in-None : need.returns-in-None
@@ -36,4 +36,4 @@ returns-in-None g c =
     let x = c .loop-k .k in
     let t = none-of (both (notNegative (g .I·Index .minus) (c .args .r .width) (f x)) (ltb (c .loop-k .last) (f x))) (f x) (sym (c .number-above .ensures) ∙ c .in-None .is) in
     sym (sym (c .loop-k .inv)
-    ∙ chain-stop (λ a x. both (notNegative (g .I·Index .minus) (c .args .r .width) x) (ltb a x)) (rising (g .I·Index .minus) (c .args .r .width) (c .args .end)) (λ a x xs. refl) f (c .loop-k .last) (c .loop-k .k) (c .loop-k .k + 1) (c .args .r .count - c .loop-k .k) (c .args .r .count - (c .loop-k .k + 1)) (turn-at (c .loop-k .k) (c .args .r .count) (c .loop-k-test .taken)) t)
+    ∙ chain-stop (λ a x. both (notNegative (g .I·Index .minus) (c .args .r .width) x) (ltb a x)) (rising (g .I·Index .minus) (c .args .r .width) (c .args .end)) (λ a x xs. refl) f (c .loop-k .last) (c .loop-k .k) (c .loop-k .k + 1) (c .args .r .count - c .loop-k .k) (c .args .r .count - (c .loop-k .k + 1)) (turn-at (c .loop-k .k) (c .args .r .count) (omega arith)) t)

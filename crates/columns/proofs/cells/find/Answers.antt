@@ -5,25 +5,18 @@ use mathlib.Core.Bool.{true}
 use lib.ListN.{length}
 use Rattle.format.specs.Trees.{recAt}
 use Rattle.format.specs.Rules.{childrenAt, ruledAt}
-use Rattle.format.proofs.Known.{right, known}
+use Rattle.format.proofs.Known.{right}
 use Rattle.columns.specs.Held.{held, shown}
 use Rattle.columns.proofs.Ways.{readable, ruled-in, onward, arrived}
 use Rattle.columns.proofs.cells.find.Needs as need
-use Rattle.columns.proofs.cells.find.Needs.{In-loop-p}
 
 pub loop-p-holds : need.loop-p-holds
 loop-p-holds c =
     let k = right (c .args .bytes .now) (c .args .records .now) (c .args .q) (c .pre .well) in
     (refl, c .pre .low, omega (arith, k .head .some))
 
-pub add-r : need.add-r
-add-r c =
-    let t = ruled-in (c .args .bytes .now) (c .args .records .now) (c .args .q) (c .loop-p .p) (c .pre .well) (c .loop-p .kept .p) (c .loop-p .inv .2) in
-    let k = known (c .args .bytes .now) (recAt (c .args .records .now) (c .loop-p .p)) (childrenAt (c .args .records .now) (c .loop-p .p)) (t .0) in
-    omega (arith, k .low, c .loop-p .inv .1)
-
-pub look-requires : need.look-requires
-look-requires c κs =
+pub look-at-row-requires : need.look-at-row-requires
+look-at-row-requires c κs =
     let t = ruled-in (c .args .bytes .now) (c .args .records .now) (c .args .q) (c .loop-p .p) (c .pre .well) (c .loop-p .kept .p) (c .loop-p .inv .2) in
     readable (c .args .bytes .now) (recAt (c .args .records .now) (c .loop-p .p)) (childrenAt (c .args .records .now) (c .loop-p .p)) (t .0) (c .loop-p .i) (c .loop-p .inv .1)
 
