@@ -21,7 +21,7 @@ use numbers::bit_at;
 use records::Record;
 
 // n bytes at p end at or below the end.
-pub fn has_room(bytes: &[u8], p: u64, n: u64) -> bool
+fn has_room(bytes: &[u8], p: u64, n: u64) -> bool
     ensures { λ v. ⌜ v ≡ room (now (bytes .entry)) p n ⌝ }
 {
     match p.checked_add(n) {
@@ -41,7 +41,7 @@ fn has_numbers(bytes: &[u8], p: u64, n: u64, width: u64) -> bool
 }
 
 // The window ends low enough.
-pub fn ends_low(r: Record) -> bool
+pub(super) fn ends_low(r: Record) -> bool
     ensures { λ v. ⌜ v ≡ leb (endOf r) 4294967295 ⌝ }
 {
     match r.start.checked_add(r.length) {
@@ -50,7 +50,7 @@ pub fn ends_low(r: Record) -> bool
     }
 }
 
-pub fn validity_ok(bytes: &[u8], r: Record) -> bool
+pub(super) fn validity_ok(bytes: &[u8], r: Record) -> bool
     requires { ⌜ endOf r ≤ 4294967295 ⌝ }
     ensures { λ v. ⌜ v ≡ validityOk (now (bytes .entry)) r ⌝ }
 {
@@ -67,7 +67,7 @@ fn is_flat_width(width: u64) -> bool
     width == 1 || width == 2 || width == 4 || width == 8 || width == 16 || width == 32
 }
 
-pub fn flat_ok(bytes: &[u8], r: Record) -> bool
+pub(super) fn flat_ok(bytes: &[u8], r: Record) -> bool
     requires { ⌜ endOf r ≤ 4294967295 ⌝ }
     ensures { λ v. ⌜ v ≡ inTurn (flatTests (now (bytes .entry)) r) ⌝ }
 {
@@ -79,7 +79,7 @@ pub fn flat_ok(bytes: &[u8], r: Record) -> bool
         && r.count == 0
 }
 
-pub fn bit_ok(bytes: &[u8], r: Record) -> bool
+pub(super) fn bit_ok(bytes: &[u8], r: Record) -> bool
     requires { ⌜ endOf r ≤ 4294967295 ⌝ }
     ensures { λ v. ⌜ v ≡ inTurn (bitTests (now (bytes .entry)) r) ⌝ }
 {
@@ -92,7 +92,7 @@ pub fn bit_ok(bytes: &[u8], r: Record) -> bool
 }
 
 // Number j of the first buffer; None where it is negative.
-pub fn number_at<I: Index>(bytes: &[u8], r: Record, j: u64) -> Option<u64>
+fn number_at<I: Index>(bytes: &[u8], r: Record, j: u64) -> Option<u64>
     requires wide { ⌜ r .width ≡ I·Index .wide ⌝ }
     requires room { ⌜ r .a + j * r .width + r .width ≤ length (now bytes) ⌝ }
     ensures { λ v. ⌜ v ≡ asIndex (valueOf (I·Index .minus) (r .width) (number (now (bytes .entry)) r j)) ⌝ }
@@ -152,7 +152,7 @@ fn offsets_ok(bytes: &[u8], r: Record, most: u64) -> bool
     }
 }
 
-pub fn bytes_ok(bytes: &[u8], r: Record) -> bool
+pub(super) fn bytes_ok(bytes: &[u8], r: Record) -> bool
     requires { ⌜ endOf r ≤ 4294967295 ⌝ }
     ensures { λ v. ⌜ v ≡ inTurn (bytesTests (now (bytes .entry)) r) ⌝ }
 {
@@ -170,7 +170,7 @@ fn is_single(r: Record, k: Record) -> bool
     r.span >= 2 && r.span - 1 == k.span
 }
 
-pub fn list_ok(bytes: &[u8], r: Record, k: Record) -> bool
+pub(super) fn list_ok(bytes: &[u8], r: Record, k: Record) -> bool
     requires { ⌜ endOf r ≤ 4294967295 ⌝ }
     ensures { λ v. ⌜ v ≡ inTurn (listTests (now (bytes .entry)) r k) ⌝ }
 {
@@ -182,7 +182,7 @@ pub fn list_ok(bytes: &[u8], r: Record, k: Record) -> bool
         && r.count == 0
 }
 
-// Position j is null by the bitmap.
+// Position j is null by the bitmap. It is public for the crate that reads cells, of columns that the check has passed.
 pub fn is_null(bytes: &[u8], r: Record, j: u64) -> bool
     requires low { ⌜ j < endOf r ⌝ }
     requires valid { ⌜ validityOk (now bytes) r ≡ true ⌝ }
@@ -252,7 +252,7 @@ fn is_index_width(width: u64) -> bool
     width == 1 || width == 2 || width == 4 || width == 8
 }
 
-pub fn dictionary_ok(bytes: &[u8], r: Record, k: Record) -> bool
+pub(super) fn dictionary_ok(bytes: &[u8], r: Record, k: Record) -> bool
     requires small { ⌜ endOf r ≤ 4294967295 ⌝ }
     requires valid { ⌜ validityOk (now bytes) r ≡ true ⌝ }
     ensures { λ v. ⌜ v ≡ inTurn (dictionaryTests (now (bytes .entry)) r k) ⌝ }
@@ -301,7 +301,7 @@ fn all_runs_rise(bytes: &[u8], r: Record, end: u64) -> bool
     }
 }
 
-pub fn runs_ok(bytes: &[u8], r: Record, k: Record) -> bool
+pub(super) fn runs_ok(bytes: &[u8], r: Record, k: Record) -> bool
     requires small { ⌜ endOf r ≤ 4294967295 ⌝ }
     ensures { λ v. ⌜ v ≡ inTurn (runTests (now (bytes .entry)) r k) ⌝ }
 {
