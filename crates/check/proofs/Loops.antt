@@ -1,13 +1,11 @@
 -- Loops that test one thing after another.
-use Prim.Native.Nat.{ℕ, zero, suc, _+_, _-_, _*_, _/_, _%_, _^_, _<_, _≤_}
+use Prim.Native.Nat.{ℕ, zero, suc, _+_, _-_, _<_, _≤_}
 use mathlib.Core.Path.{_≡_, refl, sym, ap, _∙_}
 use mathlib.Core.Bool.{Bool, true, false, cond}
-use mathlib.Core.List.{List, [], _∷_, _++_, map}
+use mathlib.Core.List.{List, _∷_, map}
 use native.Mathlib.Omega.{arith}
-use lib.ListN.{length, getD}
-use lib.Dec.{leb, ltb, eqb}
+use lib.Dec.{leb}
 use Rattle.std.specs.Iters.{counting}
-use Rattle.std.specs.declared.option.Option.{Option}
 use Rattle.std.specs.declared.option.Option.the-variants.{Some, None}
 use Rattle.std.proofs.shelf.Tests.{lt-ltb, le-ltb, leb-true, false≢true}
 use Rattle.records.specs.declared.Record.{Record}
@@ -34,9 +32,6 @@ every-more f s k n h t = sym (ap (every f) (turn s k n h) ∙ ap (λ b. both b (
 
 pub every-stop : (f : ℕ → Bool) (s k n : ℕ) → k < n → f (s + k) ≡ false → every f (counting (s + k) (n - k)) ≡ false
 every-stop f s k n h t = ap (every f) (turn s k n h) ∙ ap (λ b. both b (every f (counting (s + (k + 1)) (n - (k + 1))))) t
-
-pub every-done : (f : ℕ → Bool) (s k n : ℕ) → n ≤ k → every f (counting (s + k) (n - k)) ≡ true
-every-done f s k n h = let e : n - k ≡ 0 = omega arith in ap (λ m. every f (counting (s + k) m)) e
 
 -- the same over a list of values, where the test needs the one before
 module _ (test : ℕ → ℕ → Bool) (all : ℕ → List ℕ → Bool) (step : (a x : ℕ) (xs : List ℕ) → all a (x ∷ xs) ≡ both (test a x) (all x xs)) where

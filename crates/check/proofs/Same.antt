@@ -1,5 +1,5 @@
 -- The tests of the check and the rules of the format agree.
-use Prim.Native.Nat.{ℕ, zero, suc, _+_, _-_, _*_, _<_, _≤_}
+use Prim.Native.Nat.{ℕ, zero, suc, _+_, _-_, _≤_}
 use mathlib.Core.Path.{_≡_, refl, sym, ap, _∙_, subst}
 use mathlib.Core.Bool.{Bool, true, false, cond}
 use mathlib.Core.List.{List, [], _∷_, map}
@@ -8,16 +8,15 @@ use lib.ListN.{length, getD}
 use lib.Dec.{leb, ltb, eqb}
 use Rattle.std.specs.Iters.{counting}
 use Rattle.std.specs.shelf.Lists.{All}
-use Rattle.std.specs.declared.option.Option.{Option}
-use Rattle.std.specs.declared.option.Option.the-variants.{Some, None}
-use Rattle.std.proofs.shelf.Tests.{leb-true, ltb-true, ltb-false, eqb-true, eq-eqb, lt-ltb, le-ltb, le-leb}
+use Rattle.std.specs.declared.option.Option.the-variants.{Some}
+use Rattle.std.proofs.shelf.Tests.{leb-true, ltb-false, eqb-true, eq-eqb, lt-ltb, le-ltb, le-leb}
 use Rattle.records.specs.declared.Record.{Record}
 use Rattle.numbers.specs.Little.{notNegative}
 use Rattle.format.specs.Trees.{recAt}
 use Rattle.format.specs.Meaning.{Kind, flat, bits, bytes, dictionary, list, structs, runs, other, kindOf, number, endsOf}
-use Rattle.format.specs.Rules.{both, allOf, every, zeros, total, last, rises, endOf, offsetRules, keyOk, oneChild, noChild, kindRules, recordRules, treesFrom, childrenAt, ruledAt, okAt, rootRules, innerOk, firstNot, firstBroken}
-use Rattle.format.proofs.Tests.{no-way, sub-true, both-true, same-test, all-of, all-in, each-from, every-from}
-use Rattle.check.specs.Tests.{inTurn, climbs, offsetsOf, offsetsOk, keysOk, rising, reaches, walk, single, flatTests, bitTests, bytesTests, dictionaryTests, listTests, structTests, runTests, kindOk, recordTests, rootTests, innerTests, innerFrom, firstFailed}
+use Rattle.format.specs.Rules.{both, allOf, every, total, last, rises, endOf, offsetRules, oneChild, noChild, kindRules, recordRules, treesFrom, childrenAt, ruledAt, okAt, rootRules, innerOk, firstNot, firstBroken}
+use Rattle.format.proofs.Tests.{no-way, sub-true, both-true, same-test, all-of, all-in}
+use Rattle.check.specs.Tests.{inTurn, climbs, offsetsOf, offsetsOk, rising, reaches, walk, single, flatTests, bitTests, bytesTests, dictionaryTests, listTests, structTests, runTests, kindOk, recordTests, rootTests, innerFrom, firstFailed}
 
 -- where all tests hold, number i does
 pub test : (ts : List Bool) → inTurn ts ≡ true → (i : ℕ) → getD ts i true ≡ true

@@ -1,12 +1,12 @@
 ghost use mathlib.Core.Path.{_≡_};
-ghost use mathlib.Core.Bool.{Bool, true, false};
-ghost use mathlib.Core.List.{List, _∷_, []};
-ghost use Prim.Native.Nat.{ℕ, _+_, _-_, _*_, _/_, _^_, _<_, _≤_};
+ghost use mathlib.Core.Bool.{true, false};
+ghost use mathlib.Core.List.{_∷_, []};
+ghost use Prim.Native.Nat.{_+_, _-_, _*_, _/_, _<_, _≤_};
 ghost use lib.ListN.{length};
-ghost use lib.Dec.{leb, ltb, eqb};
+ghost use lib.Dec.{leb, eqb};
 ghost use Rattle.numbers.specs.Little.{asIndex, valueOf};
 ghost use Rattle.format.specs.Meaning.{number, isNull, endsOf};
-ghost use Rattle.format.specs.Rules.{both, oneOf, endOf, room, validityOk, keyOk};
+ghost use Rattle.format.specs.Rules.{oneOf, endOf, room, validityOk, keyOk};
 ghost use Rattle.check.specs.Tests.{inTurn, atLeast, above, climbs, offsetsOf, offsetsOk, keysOk, rising, single, flatTests, bitTests, bytesTests, dictionaryTests, listTests, runTests};
 use numbers::I8Index;
 use numbers::I16Index;

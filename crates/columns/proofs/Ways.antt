@@ -1,29 +1,27 @@
 -- The way to a cell, record by record.
-use Prim.Native.Nat.{ℕ, zero, suc, _+_, _-_, _*_, _/_, _<_, _≤_}
-use mathlib.Core.Path.{_≡_, refl, sym, ap, ap₂, _∙_, subst}
+use Prim.Native.Nat.{ℕ, zero, suc, _+_, _-_, _<_, _≤_}
+use mathlib.Core.Path.{_≡_, refl, sym, ap, _∙_, subst}
 use mathlib.Core.Bool.{Bool, true, false, cond}
 use mathlib.Core.List.{List, [], _∷_, map}
-use mathlib.Core.Logic.{_⊎_, inl, inr}
 use native.Mathlib.Omega.{arith}
-use lib.ListN.{length, getD, drop}
+use lib.ListN.{length, drop}
 use lib.Dec.{leb, ltb, eqb}
 use Rattle.std.specs.Iters.{counting}
 use Rattle.std.specs.shelf.Lists.{All}
-use Rattle.std.proofs.shelf.Tests.{lt-leb, le-leb, leb-true, eqb-true, eq-eqb}
+use Rattle.std.proofs.shelf.Tests.{lt-leb, le-leb, leb-true, eqb-true}
 use Rattle.std.proofs.shelf.Lists.{drop-more, drop-all}
 use Rattle.std.proofs.shelf.Counted.{length-map-counting}
 use Rattle.records.specs.declared.Record.{Record}
-use Rattle.format.specs.Rows.{Row, null, raw}
 use Rattle.format.specs.Trees.{nothing, recAt}
-use Rattle.format.specs.Meaning.{Kind, flat, bits, bytes, dictionary, list, structs, runs, other, kindOf, isNull, number, endsOf, runOf, valueAt, rowOf}
-use Rattle.format.specs.Rules.{both, allOf, oneOf, endOf, kindRules, recordRules, childrenAt, ruledAt, okAt, WellFormed}
-use Rattle.format.specs.Cells.{Found, absent, aBit, bytesAt, leadsOn, leads, foundAt, found}
-use Rattle.format.proofs.Tests.{no-way, sub-true, all-of, none-not, passed}
-use Rattle.format.proofs.Facts.{Is, kind-is, Says, facts, Lone, Offsets, run-below}
+use Rattle.format.specs.Meaning.{Kind, flat, bits, bytes, dictionary, list, structs, runs, other, kindOf, isNull, number, endsOf, runOf}
+use Rattle.format.specs.Rules.{allOf, oneOf, endOf, kindRules, recordRules, childrenAt, ruledAt, WellFormed}
+use Rattle.format.specs.Cells.{absent, leadsOn, leads, foundAt, found}
+use Rattle.format.proofs.Tests.{no-way, all-of}
+use Rattle.format.proofs.Facts.{Says, facts, run-below}
 use Rattle.format.proofs.Carry.{in-room}
-use Rattle.format.proofs.Known.{Right, right, Known, known}
+use Rattle.format.proofs.Known.{right}
 use Rattle.columns.specs.Held as held
-use Rattle.columns.specs.Held.{Held, shown, Stepped, here, child, step, stepAt}
+use Rattle.columns.specs.Held.{Held, shown, here, child, step, stepAt}
 use Rattle.columns.specs.Readable.{Readable}
 use Rattle.check.proofs.Loops.{turn-at}
 
@@ -192,7 +190,7 @@ module _ (bs : List ℕ) (rs : List Record) (p : ℕ) (in′ : p < length rs) (o
   pub onward : (k : ℕ) → step bs r j ≡ child k → Onward bs rs p i k
   onward k e = go (isNull bs r j) refl e
     where
-      go : (t : Bool) → isNull bs r j ≡ t → cond t (here held.nothing) (stepAt bs r (kindOf (r .kind)) j) ≡ child k → Onward bs rs p i k
+      go : (t : Bool) → isNull bs r j ≡ t → cond t (here held.noValue) (stepAt bs r (kindOf (r .kind)) j) ≡ child k → Onward bs rs p i k
       go true t e = absurd (here-child _ k e)
       go false t e =
           let b = by-kind (kindOf (r .kind)) (facts bs r (childrenAt rs p) ok) t k e in
@@ -211,7 +209,7 @@ module _ (bs : List ℕ) (rs : List Record) (p : ℕ) (in′ : p < length rs) (o
   pub arrived : (h : Held) → step bs r j ≡ here h → shown bs (found bs (drop p rs) i) ≡ h
   arrived h e = ap (shown bs) found-turn ∙ go (isNull bs r j) e
     where
-      go : (t : Bool) → cond t (here held.nothing) (stepAt bs r (kindOf (r .kind)) j) ≡ here h
+      go : (t : Bool) → cond t (here held.noValue) (stepAt bs r (kindOf (r .kind)) j) ≡ here h
           → shown bs (cond t absent (foundAt bs r (kindOf (r .kind)) (found bs (drop (p + 1) rs)) j)) ≡ h
       go true e = cc
       go false e = at-here (kindOf (r .kind)) h e

@@ -1,12 +1,12 @@
 ghost use mathlib.Core.Path.{_≡_};
-ghost use mathlib.Core.Bool.{Bool, true, false};
-ghost use mathlib.Core.List.{List, []};
+ghost use mathlib.Core.Bool.{true, false};
+ghost use mathlib.Core.List.{[]};
 ghost use mathlib.Core.Logic.{_⊎_};
-ghost use Prim.Native.Nat.{ℕ, _+_, _-_, _*_, _/_, _<_, _≤_};
+ghost use Prim.Native.Nat.{_+_, _-_, _*_, _/_, _<_, _≤_};
 ghost use lib.ListN.{length, drop};
 ghost use Rattle.format.specs.Trees.{recAt};
 ghost use Rattle.format.specs.Meaning.{number, endsOf, runOf, rowOf, kindOf};
-ghost use Rattle.format.specs.Rules.{endOf, WellFormed};
+ghost use Rattle.format.specs.Rules.{WellFormed};
 ghost use Rattle.format.specs.Cells.{found, leads, leadsOn, bytesAt};
 ghost use Rattle.columns.specs.Held.{held, shown, stepped, step, valueRow};
 ghost use Rattle.columns.specs.Readable.{Readable};

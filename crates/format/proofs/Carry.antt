@@ -1,28 +1,21 @@
 -- The rules of a record hold on when its window shrinks, when its places move along with the bytes, and when bytes are added above
 -- the mark: slice, admit, and every later call.
-use Prim.Native.Nat.{ℕ, suc, zero, _+_, _-_, _*_, _/_, _%_, _^_, _<_, _≤_}
-use mathlib.Core.Path.{_≡_, refl, ap, ap₂, sym, _∙_, subst}
-use mathlib.Core.Logic.{_⊎_, inl, inr}
+use Prim.Native.Nat.{ℕ, suc, _+_, _-_, _*_, _/_, _<_, _≤_}
+use mathlib.Core.Path.{_≡_, refl, ap₂, sym, _∙_, subst}
 use mathlib.Core.Bool.{Bool, true, false, cond}
-use mathlib.Core.List.{List, [], _∷_, _++_, map}
-use native.Mathlib.Nat.{add-assoc, zero-add, add-zero, mul-le-mul-right}
+use mathlib.Core.List.{List, [], _∷_}
+use native.Mathlib.Nat.{mul-le-mul-right}
 use native.Mathlib.Omega.{arith}
-use lib.ListN.{length, getD, take, drop, replicate}
-use lib.Dec.{leb, ltb, eqb}
-use Rattle.std.specs.shelf.Lists.{All, between}
+use lib.ListN.{length}
+use lib.Dec.{leb, eqb}
 use Rattle.std.specs.Iters.{counting}
-use Rattle.std.specs.declared.option.Option.{Option}
-use Rattle.std.specs.declared.option.Option.the-variants.{Some, None}
 use Rattle.records.specs.declared.Record.{Record}
-use Rattle.numbers.specs.Little.{little, numberAt, notNegative}
-use Rattle.numbers.specs.Bits.{bitAt, bitBytes}
-use Rattle.format.specs.Rows.{Row, null, raw, bit, listed, struct, rows, first}
-use Rattle.format.specs.Trees.{Forest, end, node, recordsOf, preorder, tops, among, after, parse, firstTree, nothing, recAt}
-use Rattle.format.specs.Meaning.{Kind, flat, bits, bytes, dictionary, list, structs, runs, other, kindOf, isNull, number, endsOf, runOf, valueAt, rowOf, decode, columnAt, row}
-use Rattle.format.specs.Rules.{both, allOf, every, oneOf, zeros, total, last, rises, endOf, room, offsetRules, keyOk, oneChild, noChild, kindRules, validityOk, recordRules, treesFrom, childrenAt, ruledAt, okAt, rootRules, innerOk, firstNot, firstBroken, WellFormed}
-use Rattle.std.proofs.shelf.Tests.{leb-true, ltb-true, ltb-false, eqb-true, eqb-false, eq-eqb, ne-eqb, lt-ltb, le-ltb, le-leb}
-use Rattle.std.proofs.shelf.Elements.{all-weaker}
-use Rattle.format.proofs.Tests.{no-way, sub-true, both-true, all-of, all-in, each, each-from, every-from, map-counting-same, climb}
+use Rattle.numbers.specs.Little.{numberAt, notNegative}
+use Rattle.numbers.specs.Bits.{bitBytes}
+use Rattle.format.specs.Meaning.{Kind, flat, bits, bytes, dictionary, list, structs, runs, other, kindOf, isNull, number, endsOf}
+use Rattle.format.specs.Rules.{allOf, every, zeros, total, last, rises, endOf, room, offsetRules, keyOk, oneChild, noChild, kindRules, validityOk, recordRules}
+use Rattle.std.proofs.shelf.Tests.{leb-true, eqb-true, eqb-false, eq-eqb, le-leb}
+use Rattle.format.proofs.Tests.{no-way, sub-true, both-true, all-of, all-in, each-from, every-from, map-counting-same, climb}
 use Rattle.format.proofs.Facts.{Is, kind-is}
 
 -- number j of e numbers that fit

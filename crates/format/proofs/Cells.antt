@@ -1,29 +1,21 @@
 -- What is found in a row is the row, and its bytes end at or below the mark.
-use Prim.Native.Nat.{ℕ, suc, zero, _+_, _-_, _*_, _/_, _%_, _^_, _<_, _≤_}
-use mathlib.Core.Path.{_≡_, refl, ap, ap₂, sym, _∙_, subst}
-use mathlib.Core.Logic.{_⊎_, inl, inr}
+use Prim.Native.Nat.{ℕ, _+_, _-_, _<_, _≤_}
+use mathlib.Core.Path.{_≡_, refl, ap, sym, _∙_, subst}
 use mathlib.Core.Bool.{Bool, true, false, cond}
-use mathlib.Core.List.{List, [], _∷_, _++_, map}
-use native.Mathlib.Nat.{add-assoc, zero-add, add-zero, mul-le-mul-right}
+use mathlib.Core.List.{List, [], _∷_, _++_}
 use native.Mathlib.Omega.{arith}
-use lib.ListN.{length, getD, take, drop, replicate}
-use lib.Dec.{leb, ltb, eqb}
-use Rattle.std.specs.shelf.Lists.{All, between}
-use Rattle.std.specs.Iters.{counting}
-use Rattle.std.specs.declared.option.Option.{Option}
-use Rattle.std.specs.declared.option.Option.the-variants.{Some, None}
+use lib.ListN.{length, take, drop}
+use Rattle.std.specs.shelf.Lists.{All}
 use Rattle.records.specs.declared.Record.{Record}
-use Rattle.numbers.specs.Little.{little, numberAt, notNegative}
-use Rattle.numbers.specs.Bits.{bitAt, bitBytes}
-use Rattle.format.specs.Rows.{Row, null, raw, bit, listed, struct, rows, first}
-use Rattle.format.specs.Trees.{Forest, end, node, recordsOf, preorder, tops, among, after, parse, firstTree, nothing, recAt}
-use Rattle.format.specs.Meaning.{Kind, flat, bits, bytes, dictionary, list, structs, runs, other, kindOf, isNull, number, endsOf, runOf, valueAt, rowOf, decode, columnAt, row}
-use Rattle.format.specs.Rules.{both, allOf, every, oneOf, zeros, total, last, rises, endOf, room, offsetRules, keyOk, oneChild, noChild, kindRules, validityOk, recordRules, treesFrom, childrenAt, ruledAt, okAt, rootRules, innerOk, firstNot, firstBroken, WellFormed}
+use Rattle.format.specs.Rows.{Row, null, raw, first}
+use Rattle.format.specs.Trees.{Forest, end, node, preorder, tops, recAt}
+use Rattle.format.specs.Meaning.{Kind, flat, bits, bytes, dictionary, list, structs, runs, other, kindOf, isNull, number, endsOf, runOf, valueAt, decode, row}
+use Rattle.format.specs.Rules.{endOf, WellFormed}
 use Rattle.std.proofs.shelf.Counted.{length-map-counting}
-use Rattle.format.specs.Cells.{Found, absent, aBit, bytesAt, leadsOn, leads, foundAt, found, foundRow, FoundIn}
+use Rattle.format.specs.Cells.{Found, absent, leadsOn, leads, foundAt, found, foundRow, FoundIn}
 use Rattle.format.proofs.Tests.{no-way}
 use Rattle.std.proofs.shelf.Lists.{append-assoc, take-append-drop}
-use Rattle.format.proofs.Facts.{run-below, Lone, Says, facts}
+use Rattle.format.proofs.Facts.{run-below, Says, facts}
 use Rattle.format.proofs.Checked.{Kept, checked, column-is}
 use Rattle.format.proofs.Carry.{in-room}
 

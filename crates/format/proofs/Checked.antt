@@ -1,31 +1,25 @@
 -- A column that passes the check is a tree of records that keep their rules, and the other way round.
-use Prim.Native.Nat.{ℕ, suc, zero, _+_, _-_, _*_, _/_, _%_, _^_, _<_, _≤_}
+use Prim.Native.Nat.{ℕ, suc, zero, _+_, _-_, _<_, _≤_}
 use mathlib.Core.Path.{_≡_, refl, ap, ap₂, sym, _∙_, subst}
-use mathlib.Core.Logic.{_⊎_, inl, inr}
 use mathlib.Core.Bool.{Bool, true, false, cond}
 use mathlib.Core.List.{List, [], _∷_, _++_, map}
-use native.Mathlib.Nat.{add-assoc, zero-add, add-zero, mul-le-mul-right}
+use native.Mathlib.Nat.{zero-add}
 use native.Mathlib.Omega.{arith}
-use lib.ListN.{length, getD, take, drop, replicate}
+use lib.ListN.{length, getD, take, drop}
 use lib.Dec.{leb, ltb, eqb}
-use Rattle.std.specs.shelf.Lists.{All, between}
-use Rattle.std.specs.Iters.{counting}
-use Rattle.std.specs.declared.option.Option.{Option}
-use Rattle.std.specs.declared.option.Option.the-variants.{Some, None}
+use Rattle.std.specs.shelf.Lists.{All}
 use Rattle.records.specs.declared.Record.{Record}
-use Rattle.numbers.specs.Little.{little, numberAt, notNegative}
-use Rattle.numbers.specs.Bits.{bitAt, bitBytes}
-use Rattle.format.specs.Rows.{Row, null, raw, bit, listed, struct, rows, first}
-use Rattle.format.specs.Trees.{Forest, end, node, recordsOf, preorder, tops, among, after, parse, firstTree, nothing, recAt}
-use Rattle.format.specs.Meaning.{Kind, flat, bits, bytes, dictionary, list, structs, runs, other, kindOf, isNull, number, endsOf, runOf, valueAt, rowOf, decode, columnAt, row}
-use Rattle.format.specs.Rules.{both, allOf, every, oneOf, zeros, total, last, rises, endOf, room, offsetRules, keyOk, oneChild, noChild, kindRules, validityOk, recordRules, treesFrom, childrenAt, ruledAt, okAt, rootRules, innerOk, firstNot, firstBroken, WellFormed}
+use Rattle.format.specs.Rows.{first}
+use Rattle.format.specs.Trees.{Forest, end, node, recordsOf, preorder, tops, parse, firstTree, nothing, recAt}
+use Rattle.format.specs.Meaning.{other, columnAt}
+use Rattle.format.specs.Rules.{allOf, every, total, recordRules, treesFrom, childrenAt, ruledAt, okAt, rootRules, innerOk, WellFormed}
 use native.Mathlib.Decide.{decLt}
-use Rattle.std.proofs.shelf.Tests.{leb-true, ltb-true, ltb-false, eqb-true, eq-eqb, lt-ltb, le-ltb, le-leb}
-use Rattle.std.proofs.shelf.Lists.{drop-more, drop-drop, take-append-drop, append-assoc, append-nil, length-append, length-drop, length-map, drop-at, getD-drop, getD-take, getD-map, getD-append-left}
+use Rattle.std.proofs.shelf.Tests.{leb-true, ltb-true, eqb-true, eq-eqb, lt-ltb, le-ltb, le-leb}
+use Rattle.std.proofs.shelf.Lists.{drop-more, drop-drop, take-append-drop, append-assoc, length-append, length-drop, length-map, drop-at, getD-drop, getD-take, getD-map, getD-append-left}
 use Rattle.std.proofs.shelf.Elements.{all-weaker}
 use Rattle.format.specs.Types.{recordsAt}
 use Rattle.format.proofs.Trees.{Spanned, length-preorder, parse-preorder}
-use Rattle.format.proofs.Tests.{no-way, sub-true, both-true, all-of, all-in, each, none-not, no-broken, passed}
+use Rattle.format.proofs.Tests.{sub-true, both-true, all-of, all-in, each, none-not, no-broken, passed}
 
 -- every record of a forest keeps its rules
 abbrev pub Kept : List ℕ → Forest → Type 0

@@ -1,24 +1,18 @@
 -- What the rules of a record say of its buffers and children, as facts.
-use Prim.Native.Nat.{ℕ, suc, zero, _+_, _-_, _*_, _/_, _%_, _^_, _<_, _≤_}
-use mathlib.Core.Path.{_≡_, refl, ap, ap₂, sym, _∙_, subst}
-use mathlib.Core.Logic.{_⊎_, inl, inr}
+use Prim.Native.Nat.{ℕ, suc, _+_, _-_, _*_, _<_, _≤_}
+use mathlib.Core.Path.{_≡_, refl, ap, sym}
 use mathlib.Core.Bool.{Bool, true, false, cond}
-use mathlib.Core.List.{List, [], _∷_, _++_, map}
-use native.Mathlib.Nat.{add-assoc, zero-add, add-zero, mul-le-mul-right}
+use mathlib.Core.List.{List, [], _∷_}
 use native.Mathlib.Omega.{arith}
-use lib.ListN.{length, getD, take, drop, replicate}
-use lib.Dec.{leb, ltb, eqb}
-use Rattle.std.specs.shelf.Lists.{All, between}
-use Rattle.std.specs.Iters.{counting}
-use Rattle.std.specs.declared.option.Option.{Option}
-use Rattle.std.specs.declared.option.Option.the-variants.{Some, None}
+use lib.ListN.{length}
+use lib.Dec.{leb, eqb}
+use Rattle.std.specs.shelf.Lists.{All}
 use Rattle.records.specs.declared.Record.{Record}
-use Rattle.numbers.specs.Little.{little, numberAt, notNegative}
-use Rattle.numbers.specs.Bits.{bitAt, bitBytes}
-use Rattle.format.specs.Rows.{Row, null, raw, bit, listed, struct, rows, first}
-use Rattle.format.specs.Trees.{Forest, end, node, recordsOf, preorder, tops, among, after, parse, firstTree, nothing, recAt}
-use Rattle.format.specs.Meaning.{Kind, flat, bits, bytes, dictionary, list, structs, runs, other, kindOf, isNull, number, endsOf, runOf, valueAt, rowOf, decode, columnAt, row}
-use Rattle.format.specs.Rules.{both, allOf, every, oneOf, zeros, total, last, rises, endOf, room, offsetRules, keyOk, oneChild, noChild, kindRules, validityOk, recordRules, treesFrom, childrenAt, ruledAt, okAt, rootRules, innerOk, firstNot, firstBroken, WellFormed}
+use Rattle.numbers.specs.Bits.{bitBytes}
+use Rattle.format.specs.Rows.{first}
+use Rattle.format.specs.Trees.{end}
+use Rattle.format.specs.Meaning.{Kind, flat, bits, bytes, dictionary, list, structs, runs, other, kindOf, isNull, number, endsOf, runOf, row}
+use Rattle.format.specs.Rules.{allOf, zeros, last, rises, endOf, room, offsetRules, oneChild, kindRules, recordRules}
 use Rattle.std.proofs.shelf.Tests.{leb-true, ltb-true, eqb-true, eq-eqb}
 use Rattle.std.proofs.shelf.Elements.{all-weaker}
 use Rattle.format.proofs.Tests.{no-way, sub-true, all-of, each, each-from, climb}

@@ -1,36 +1,32 @@
 -- A column keeps its rules and its rows where its bytes lie elsewhere and where memory grows above it; a slice has a stretch of the
 -- rows.
-use Prim.Native.Nat.{ℕ, suc, zero, _+_, _-_, _*_, _/_, _%_, _^_, _<_, _≤_}
+use Prim.Native.Nat.{ℕ, _+_, _-_, _*_, _/_, _%_, _^_, _<_, _≤_}
 use mathlib.Core.Path.{_≡_, refl, ap, ap₂, sym, _∙_, subst}
-use mathlib.Core.Logic.{_⊎_, inl, inr}
 use mathlib.Core.Bool.{Bool, true, false, cond}
 use mathlib.Core.List.{List, [], _∷_, _++_, map}
-use native.Mathlib.Nat.{add-assoc, zero-add, add-zero, mul-le-mul-right}
+use native.Mathlib.Nat.{add-assoc, zero-add, add-zero}
 use native.Mathlib.Omega.{arith}
-use lib.ListN.{length, getD, take, drop, replicate}
-use lib.Dec.{leb, ltb, eqb}
+use lib.ListN.{length, getD, take, drop}
+use lib.Dec.{eqb}
 use Rattle.std.specs.shelf.Lists.{All, between}
 use Rattle.std.specs.Iters.{counting}
-use Rattle.std.specs.declared.option.Option.{Option}
-use Rattle.std.specs.declared.option.Option.the-variants.{Some, None}
 use Rattle.records.specs.declared.Record.{Record}
-use Rattle.numbers.specs.Little.{little, numberAt, notNegative}
+use Rattle.numbers.specs.Little.{little, numberAt}
 use Rattle.numbers.specs.Bits.{bitAt, bitBytes}
 use Rattle.format.specs.Rows.{Row, null, raw, bit, listed, struct, rows, first}
-use Rattle.format.specs.Trees.{Forest, end, node, recordsOf, preorder, tops, among, after, parse, firstTree, nothing, recAt}
-use Rattle.format.specs.Meaning.{Kind, flat, bits, bytes, dictionary, list, structs, runs, other, kindOf, isNull, number, endsOf, runOf, valueAt, rowOf, decode, columnAt, row}
-use Rattle.format.specs.Rules.{both, allOf, every, oneOf, zeros, total, last, rises, endOf, room, offsetRules, keyOk, oneChild, noChild, kindRules, validityOk, recordRules, treesFrom, childrenAt, ruledAt, okAt, rootRules, innerOk, firstNot, firstBroken, WellFormed}
-use Rattle.std.proofs.shelf.Tests.{leb-true, eqb-true, eq-eqb, ne-eqb}
+use Rattle.format.specs.Trees.{Forest, end, node, preorder, tops, nothing, recAt}
+use Rattle.format.specs.Meaning.{Kind, flat, bits, bytes, dictionary, list, structs, runs, other, kindOf, isNull, number, endsOf, runOf, valueAt, decode}
+use Rattle.format.specs.Rules.{endOf, WellFormed}
+use Rattle.std.proofs.shelf.Tests.{eqb-true, eq-eqb, ne-eqb}
 use Rattle.std.proofs.shelf.Elements.{all-weaker}
 use Rattle.std.proofs.shelf.Counted.{length-map-counting}
-use Rattle.std.proofs.shelf.Lists.{append-assoc, append-nil, length-append, length-replicate, length-take-le, length-drop, drop-at, drop-drop, drop-append-le, drop-take, take-append-le, take-append-drop, getD-take, getD-drop, map-append}
+use Rattle.std.proofs.shelf.Lists.{append-assoc, append-nil, length-append, length-drop, drop-at, drop-drop, drop-append-le, drop-take, take-append-le, take-append-drop, getD-take, getD-drop, map-append}
 use Rattle.format.specs.Moves.{window, moved, sliced}
 use Rattle.format.specs.Types.{recordsAt}
 use Rattle.format.specs.Promises.{SameRows, Stretch}
-use Rattle.format.proofs.Trees.{Spanned}
 use Rattle.format.proofs.Tests.{no-way, map-counting-same}
-use Rattle.format.proofs.Facts.{Is, kind-is, Rising, run-below, Offsets, Lone, Says, facts, validity}
-use Rattle.format.proofs.Checked.{Kept, kept-spanned, Checked, checked, Rootless, tree-well, rootless-at, rootless-like, is-root, few-records, column-is, column-tree}
+use Rattle.format.proofs.Facts.{Is, kind-is, run-below, Says, facts, validity}
+use Rattle.format.proofs.Checked.{Kept, kept-spanned, checked, tree-well, rootless-at, rootless-like, is-root, few-records, column-is, column-tree}
 use Rattle.format.proofs.Carry.{in-room, placed, Carries, SameKids, same-kids, carry}
 
 -- N holds M from byte d on

@@ -1,19 +1,15 @@
 -- Tests over lists and over ranges of numbers.
-use Prim.Native.Nat.{ℕ, suc, zero, _+_, _-_, _*_, _/_, _%_, _^_, _<_, _≤_}
-use mathlib.Core.Path.{_≡_, refl, ap, ap₂, sym, _∙_, subst}
-use mathlib.Core.Logic.{_⊎_, inl, inr}
+use Prim.Native.Nat.{ℕ, suc, zero, _+_, _-_, _<_, _≤_}
+use mathlib.Core.Path.{_≡_, refl, ap, sym}
 use mathlib.Core.Bool.{Bool, true, false, cond}
-use mathlib.Core.List.{List, [], _∷_, _++_, map}
-use native.Mathlib.Nat.{add-assoc, zero-add, add-zero, mul-le-mul-right}
+use mathlib.Core.List.{List, [], _∷_, map}
+use native.Mathlib.Nat.{add-zero}
 use native.Mathlib.Omega.{arith}
-use lib.ListN.{length, getD, take, drop, replicate}
-use lib.Dec.{leb, ltb, eqb}
-use Rattle.std.specs.shelf.Lists.{All, between}
+use Rattle.std.specs.shelf.Lists.{All}
 use Rattle.std.specs.Iters.{counting}
 use Rattle.std.specs.declared.option.Option.{Option}
 use Rattle.std.specs.declared.option.Option.the-variants.{Some, None}
-use Rattle.std.proofs.shelf.Tests.{leb-true, ltb-true}
-use Rattle.format.specs.Rules.{both, allOf, every, rises, last, firstNot}
+use Rattle.format.specs.Rules.{both, allOf, every, firstNot}
 
 pub no-way : {A : Type 0} → false ≡ true → A
 no-way e = let z : _≡_ {A = ℕ} 0 1 = cc in absurd (omega arith)

@@ -1,12 +1,11 @@
 -- Records with another window, and records whose bytes lie elsewhere.
 use Prim.Native.Nat.{ℕ, _+_, _-_}
 use mathlib.Core.Bool.{cond}
-use mathlib.Core.List.{List, _∷_, map}
-use lib.ListN.{take, drop, replicate}
+use mathlib.Core.List.{List, _∷_}
 use lib.Dec.{eqb}
 use Rattle.records.specs.declared.Record.{Record}
 use Rattle.numbers.specs.Puts.{part}
-use Rattle.format.specs.Trees.{Forest, end, node, recAt}
+use Rattle.format.specs.Trees.{recAt}
 
 -- the same record over n rows from row f on
 abbrev pub window : Record → ℕ → ℕ → Record

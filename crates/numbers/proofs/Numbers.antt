@@ -1,7 +1,6 @@
 use Prim.Native.Nat.{ℕ, zero, suc, _+_, _-_, _*_, _/_, _%_, _^_, _<_, _≤_}
 use mathlib.Core.Path.{_≡_, refl, sym, ap, _∙_}
-use mathlib.Core.List.{List, [], _∷_, _++_}
-use Rattle.std.proofs.shelf.Lists.{take-at, drop-at, length-take-le}
+use mathlib.Core.List.{List, _∷_}
 use native.Mathlib.Omega.{arith}
 use native.Mathlib.Nat.{pow-suc, pow-succ', pow-le-pow-right, div-div-eq-div-mul, div-one}
 use native.Mathlib.Numerals.{add-one}
@@ -10,7 +9,7 @@ use lib.ListN.{length, getD, take, drop}
 use lib.Seq.{drop-cons}
 use lib.Pow.{ones-split, ones-lt, high}
 use mathlib.Core.Bool.{Bool, true, false, cond}
-use Rattle.numbers.specs.Little.{little, bytesOf, largest}
+use Rattle.numbers.specs.Little.{bytesOf, largest}
 
 ones-shr : (j k : ℕ) → (2 ^ (j + k) - 1) / 2 ^ k ≡ 2 ^ j - 1
 ones-shr j k = ap (λ n. n / 2 ^ k) (ones-split j k) ∙ high (2 ^ j - 1) k (ones-lt k)
@@ -54,9 +53,3 @@ front-step w i at bs pos le within =
 pub largest-is : (s : Bool) (sign w : ℕ) → sign ≡ cond s 1 0 → 1 ≤ w → w ≤ 8 → 18446744073709551615 / 2 ^ (64 + sign - 8 * w) ≡ largest s w
 largest-is true sign w e lo hi = top-of (8 * w - 1) (64 + sign - 8 * w) (omega arith)
 largest-is false sign w e lo hi = top-of (8 * w - 0) (64 + sign - 8 * w) (omega arith)
-
--- the part that was written
-pub written-part : (d s : List ℕ) (at w : ℕ) → at ≤ length d → length s ≡ w → take w (drop at (take at d ++ (s ++ drop (at + w) d))) ≡ s
-written-part d s at w le e =
-    ap (take w) (drop-at (take at d) (s ++ drop (at + w) d) at (length-take-le at d le))
-    ∙ take-at s (drop (at + w) d) w e

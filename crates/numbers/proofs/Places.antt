@@ -1,15 +1,14 @@
-use Prim.Native.Nat.{ℕ, zero, suc, _+_, _-_, _*_, _/_, _%_, _^_, _<_, _≤_}
+use Prim.Native.Nat.{ℕ, zero, _+_, _-_, _<_, _≤_}
 use mathlib.Core.Path.{_≡_, refl, sym, ap, _∙_}
 use mathlib.Core.List.{List, [], _∷_, _++_}
 use native.Mathlib.Omega.{arith}
-use borrow.Author.Needs.{needs}
 use borrow.Rule.Slice.PartMut.{putMid}
 use lib.ListN.{length, getD, take, drop, set, replicate}
 use lib.Seq.{paste}
 use native.Mathlib.Nat.{add-zero}
-use Rattle.std.proofs.shelf.Lists.{drop-drop, places, same-lists, append-assoc, length-append, length-take-le, length-drop, take-append-drop, drop-at, take-at, take-append-le, drop-append-le, getD-take, getD-drop, append-nil, take-more, drop-more, take-all, take-take, drop-take, getD-append-left, length-replicate, getD-replicate}
+use Rattle.std.proofs.shelf.Lists.{drop-drop, append-assoc, length-append, length-take-le, length-drop, take-append-drop, take-append-le, getD-take, getD-drop, take-take, drop-take, getD-append-left, length-replicate, getD-replicate}
 use Rattle.std.proofs.shelf.Edits.{paste-paste, paste-all, paste-more}
-use Rattle.std.proofs.shelf.Lists.{length-append, drop-more, drop-all, append-assoc, take-more-set, map-more, set-split}
+use Rattle.std.proofs.shelf.Lists.{length-append, append-assoc, set-split}
 use native.Mathlib.Numerals.{add-one}
 use Rattle.numbers.specs.Puts.{put, part}
 
@@ -23,14 +22,6 @@ length-part d at n le = length-take-le n (drop at d) (omega (arith, length-drop 
 pub length-put : {X : Type 0} (at : ℕ) (s d : List X) → at + length s ≤ length d → length (put at s d) ≡ length d
 length-put at s d le =
     omega (arith, length-append (take at d) (s ++ drop (at + length s) d), length-append s (drop (at + length s) d), length-take-le at d (omega arith), length-drop (at + length s) d)
-
--- what is written over itself stays
-pub put-part : {X : Type 0} (d : List X) (at n : ℕ) → at + n ≤ length d → put at (part d at n) d ≡ d
-put-part d at n le =
-    ap (λ m. take at d ++ (take n (drop at d) ++ drop (at + m) d)) (length-part d at n le)
-    ∙ ap (λ r. take at d ++ (take n (drop at d) ++ r)) (sym (drop-drop n at d))
-    ∙ ap (λ r. take at d ++ r) (take-append-drop n (drop at d))
-    ∙ take-append-drop at d
 
 -- nothing written
 pub put-none : {X : Type 0} (at : ℕ) (d : List X) → put at [] d ≡ d
@@ -75,15 +66,6 @@ copy-step z d from n at i le within lt =
     ∙ sym (getD-take n (drop from d) i z lt) in
     ap (set (paste d at (part d from n) i) (at + i)) here
     ∙ paste-more d at (part d from n) i z (omega arith) (omega arith)
-
--- writes to places apart, in either order
-pub put-swap : {X : Type 0} (a b : ℕ) (s t d : List X) → a + length s ≤ b → b + length t ≤ length d → put a s (put b t d) ≡ put b t (put a s d)
-put-swap a b s t d ab bd =
-    let la = length-put a s d (omega arith) in
-    let lb = length-put b t d (omega arith) in
-    let lab = length-put a s (put b t d) (omega arith) in
-    let lba = length-put b t (put a s d) (omega arith) in
-    same-lists (put a s (put b t d)) (put b t (put a s d)) (omega arith) (λ k z h. grind (arith, places))
 
 -- a zero more
 pub zero-step : (d : List ℕ) (at n i : ℕ) → at + n ≤ length d → i < n → set (paste d at (replicate n 0) i) (at + i) 0 ≡ paste d at (replicate n 0) (i + 1)

@@ -1,10 +1,10 @@
 ghost use mathlib.Core.Path.{_≡_};
 ghost use mathlib.Core.Bool.{Bool, true, false};
-ghost use Prim.Native.Nat.{ℕ, _+_, _<_, _≤_, _^_};
+ghost use Prim.Native.Nat.{ℕ, _+_, _<_, _≤_};
 ghost use lib.ListN.{length};
 ghost use Rattle.std.specs.declared.option.Option.{Option};
 ghost use Rattle.std.specs.declared.option.Option.the-variants.{Some};
-ghost use Rattle.numbers.specs.Little.{little, bytesOf, largest, valueOf, asIndex, reading};
+ghost use Rattle.numbers.specs.Little.{bytesOf, largest, valueOf, asIndex, reading};
 ghost use Rattle.numbers.specs.Puts.{part};
 use super::memory::read_little;
 

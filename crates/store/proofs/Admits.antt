@@ -1,20 +1,18 @@
-use Prim.Native.Nat.{ℕ, zero, suc, _+_, _-_, _*_, _/_, _^_, _<_, _≤_}
-use mathlib.Core.Path.{_≡_, refl, sym, ap, _∙_}
-use mathlib.Core.List.{List, [], _∷_, _++_, map}
+use Prim.Native.Nat.{ℕ, _+_, _-_, _^_, _<_, _≤_}
+use mathlib.Core.Path.{_≡_, ap, _∙_}
+use mathlib.Core.List.{List, _++_, map}
 use native.Mathlib.Omega.{arith}
-use lib.ListN.{length, getD, take, drop, replicate}
+use lib.ListN.{length, getD, take, replicate}
 use Rattle.std.specs.shelf.Lists.{All}
 use Rattle.std.proofs.shelf.Lists.{length-replicate, length-append, length-map, length-take-le, getD-take}
 use Rattle.std.proofs.shelf.Elements.{all-from-getD}
-use Rattle.numbers.specs.Puts.{put, part}
+use Rattle.numbers.specs.Puts.{put}
 use Rattle.numbers.proofs.Places.{put-more}
 use Rattle.records.specs.declared.Record.{Record}
 use Rattle.format.specs.Trees.{recAt, nothing}
-use Rattle.format.specs.Types.{recordsAt}
 use Rattle.format.specs.Moves.{moved}
 use Rattle.format.specs.Rules.{childrenAt}
 use Rattle.format.proofs.Known.{Right, Known, known}
-use Rattle.store.specs.declared.marks.Marks.{Marks}
 use Rattle.numbers.specs.Puts.{nextPlace}
 use Rattle.store.specs.Stores.{Store, store, grown}
 use Rattle.store.specs.Calls.{admitted, admittedBytes}

@@ -1,18 +1,16 @@
 -- A cell holds the row, and its bytes are the part of the byte memory at its place.
-use Prim.Native.Nat.{ℕ, _+_, _-_, _<_, _≤_}
-use mathlib.Core.Path.{_≡_, refl, sym, ap, ap₂, _∙_, subst}
+use Prim.Native.Nat.{ℕ, _-_}
+use mathlib.Core.Path.{_≡_, refl, sym, ap, _∙_, subst}
 use mathlib.Core.Bool.{Bool, true, false, cond}
-use mathlib.Core.List.{List, [], _∷_}
+use mathlib.Core.List.{List}
 use native.Mathlib.Omega.{arith}
-use lib.ListN.{length, take, drop}
+use lib.ListN.{length, drop}
 use lib.Dec.{leb}
 use Rattle.std.specs.declared.result.Result.{Result}
 use Rattle.std.specs.declared.result.Result.the-variants.{Ok, Err}
 use Rattle.std.proofs.shelf.Tests.{leb-false}
-use Rattle.records.specs.declared.Record.{Record}
 use Rattle.numbers.specs.Puts.{part}
 use Rattle.numbers.proofs.Places.{length-part, part-front}
-use Rattle.format.specs.Rows.{Row}
 use Rattle.format.specs.Trees.{recAt}
 use Rattle.format.specs.Meaning.{row}
 use Rattle.format.specs.Rules.{firstBroken}
@@ -22,8 +20,8 @@ use Rattle.columns.specs.declared.cells.Cell.{Cell}
 use Rattle.columns.specs.Held.{Held, held, shown}
 use Rattle.store.specs.declared.fault.Fault.{Fault}
 use Rattle.store.specs.Stores.{Store, standing, written, torn}
-use Rattle.store.specs.Calls.{Told, made, refuse, toldCell, orBroken, cellTold}
-use Rattle.store.specs.Promises.{heldRow, HeldIn, Shows}
+use Rattle.store.specs.Calls.{made, refuse, toldCell, cellTold}
+use Rattle.store.specs.Promises.{heldRow, HeldIn, CellHasRow}
 use Rattle.store.proofs.Grown.{marks-in, long-written, not-torn, not-broken}
 
 shown-row : (bs : List ℕ) (f : Found) → heldRow (shown bs f) ≡ foundRow bs f
@@ -45,7 +43,7 @@ leading : (t : Bool) (h g : Held) → cond t (made h) (refuse 9 0 0) ≡ made g 
 leading true h g e = (refl, cc)
 leading false h g e = let z : _≡_ {A = ℕ} 0 1 = cc in absurd (omega arith)
 
-pub cell-promise : (s : Store) (r : Result Cell Fault) (q i : ℕ) → toldCell r ≡ cellTold s q i → Shows r s q i
+pub cell-promise : (s : Store) (r : Result Cell Fault) (q i : ℕ) → toldCell r ≡ cellTold s q i → CellHasRow r s q i
 cell-promise s (Err fault) q i e = tt
 cell-promise s (Ok c) q i e =
     let f : Found = found (written s) (drop q (standing s)) i in

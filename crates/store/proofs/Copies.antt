@@ -1,13 +1,10 @@
-use Prim.Native.Nat.{ℕ, zero, suc, _+_, _-_, _*_, _<_, _≤_}
-use mathlib.Core.Path.{_≡_, refl, sym, ap, _∙_}
-use mathlib.Core.List.{List, [], _∷_, _++_}
+use Prim.Native.Nat.{ℕ, _+_, _-_, _≤_}
+use mathlib.Core.Path.{_≡_, ap, _∙_}
+use mathlib.Core.List.{List, [], _∷_}
 use native.Mathlib.Omega.{arith}
-use lib.ListN.{length, getD, take, drop, set}
-use lib.Seq.{paste}
-use Rattle.std.proofs.shelf.Lists.{append-assoc, length-take-le, getD-append-left, getD-take, getD-drop, take-more, drop-more}
-use Rattle.std.proofs.shelf.Edits.{paste-more}
+use lib.ListN.{length, take, set}
 use Rattle.numbers.specs.Puts.{put, part}
-use Rattle.numbers.proofs.Places.{length-part, put-more, part-same, part-front, take-put, length-put}
+use Rattle.numbers.proofs.Places.{put-more, part-same, part-front, take-put, length-put}
 use Rattle.numbers.proofs.Places.{set-put}
 
 -- one element written at a place, and then a part from below it

@@ -1,8 +1,8 @@
 -- What a call promises in the words of the format follows from its answer and from the memory that it leaves.
-use Prim.Native.Nat.{ℕ, _+_, _-_, _<_, _≤_}
-use mathlib.Core.Path.{_≡_, refl, sym, ap, ap₂, _∙_, subst}
+use Prim.Native.Nat.{ℕ, _+_, _-_, _≤_}
+use mathlib.Core.Path.{_≡_, refl, sym, ap, _∙_, subst}
 use mathlib.Core.Bool.{Bool, true, false, cond}
-use mathlib.Core.List.{List, [], _∷_, _++_, map}
+use mathlib.Core.List.{List, [], _++_}
 use native.Mathlib.Omega.{arith}
 use lib.ListN.{length, take, drop, replicate}
 use lib.Dec.{ltb}
@@ -10,21 +10,19 @@ use Rattle.std.specs.declared.option.Option.{Option}
 use Rattle.std.specs.declared.option.Option.the-variants.{Some, None}
 use Rattle.std.specs.declared.result.Result.{Result}
 use Rattle.std.specs.declared.result.Result.the-variants.{Ok, Err}
-use Rattle.std.proofs.shelf.Lists.{append-assoc, append-nil, length-append, length-replicate, length-take-le, take-at, length-map}
+use Rattle.std.proofs.shelf.Lists.{append-assoc, append-nil, length-append, length-replicate, length-take-le, take-at}
 use Rattle.std.proofs.shelf.Tests.{ltb-false}
 use Rattle.records.specs.declared.Record.{Record}
 use Rattle.numbers.specs.Puts.{put, nextPlace}
 use Rattle.format.specs.Trees.{recAt}
-use Rattle.format.specs.Types.{recordsAt}
 use Rattle.format.specs.Moves.{moved, sliced}
-use Rattle.format.specs.Rules.{firstBroken, WellFormed}
+use Rattle.format.specs.Rules.{firstBroken}
 use Rattle.format.specs.Promises.{SameRows, Stretch}
 use Rattle.format.proofs.Moves.{still, brought-in, cut-out, same-here}
 use Rattle.store.specs.declared.fault.Fault.{Fault}
-use Rattle.store.specs.Faults.{Refusal}
-use Rattle.store.specs.Stores.{Store, store, standing, written, torn, grown}
-use Rattle.store.specs.Calls.{Told, made, refused, refuse, told, orBroken, Leaves, sliceTold, admitTold, admitted, admittedBytes}
-use Rattle.store.specs.Promises.{Stays, Sliced, Admitted}
+use Rattle.store.specs.Stores.{Store, standing, written, torn, grown}
+use Rattle.store.specs.Calls.{Told, made, refuse, told, orBroken, Leaves, sliceTold, admitTold, admitted, admittedBytes}
+use Rattle.store.specs.Promises.{Stays, SliceHasRows, AdmitHasRows}
 
 -- what lies below a mark that moved behind what was written
 pub take-put-all : {X : Type 0} (at : ℕ) (s d : List X) → at ≤ length d → take (at + length s) (put at s d) ≡ take at d ++ s
@@ -80,7 +78,7 @@ not-broken (Some at) x p e = let z : _≡_ {A = ℕ} 0 1 = cc in absurd (omega a
 made-place : (p q : ℕ) → made p ≡ made q → q ≡ p
 made-place p q e = cc
 
-pub slice-promise : (s t : Store) (r : Result ℕ Fault) (q f n : ℕ) → told r ≡ sliceTold s q f n → Leaves r s t (sliced (standing s) q f n) [] → Sliced r s t q f n × Stays s t
+pub slice-promise : (s t : Store) (r : Result ℕ Fault) (q f n : ℕ) → told r ≡ sliceTold s q f n → Leaves r s t (sliced (standing s) q f n) [] → SliceHasRows r s t q f n × Stays s t
 slice-promise s t (Err fault) q f n e l = (tt, subst (Stays s) (sym l) (same-stays s))
 slice-promise s t (Ok p) q f n e l =
     let rs : List Record = sliced (standing s) q f n in
@@ -99,7 +97,7 @@ slice-promise s t (Ok p) q f n e l =
     )
 
 pub admit-promise : (s t : Store) (r : Result ℕ Fault) (C : List Record) (D : List ℕ) → told r ≡ admitTold s C D
-    → Leaves r s t (admitted (s .marks .bytes) C) (admittedBytes (s .marks .bytes) D) → Admitted r s t C D × Stays s t
+    → Leaves r s t (admitted (s .marks .bytes) C) (admittedBytes (s .marks .bytes) D) → AdmitHasRows r s t C D × Stays s t
 admit-promise s t (Err fault) C D e l = (tt, subst (Stays s) (sym l) (same-stays s))
 admit-promise s t (Ok p) C D e l =
     let m : ℕ = s .marks .bytes in

@@ -1,16 +1,15 @@
-use Prim.Native.Nat.{ℕ, zero, suc, _+_, _-_, _*_, _<_, _≤_}
-use mathlib.Core.Path.{_≡_, refl, sym, ap, _∙_}
-use mathlib.Core.List.{List, [], _∷_, _++_}
+use Prim.Native.Nat.{ℕ, _+_, _-_}
+use mathlib.Core.Path.{_≡_}
+use mathlib.Core.List.{List, [], _∷_}
 use native.Mathlib.Omega.{arith}
 use native.Mathlib.Nat.{add-zero}
-use lib.ListN.{length, getD, take, drop}
+use lib.ListN.{length}
 use Rattle.numbers.specs.Puts.{put, part}
 use Rattle.numbers.proofs.Places.{length-part, put-none}
 use Rattle.records.specs.declared.Record.{Record}
 use Rattle.format.specs.Trees.{recAt}
 use Rattle.format.specs.Moves.{window, sliced}
 use Rattle.format.proofs.Known.{Right}
-use Rattle.store.specs.declared.marks.Marks.{Marks}
 use Rattle.store.specs.Stores.{Store, store, standing, written, grown}
 
 -- what a slice wrote is the store with the slice above the marks

@@ -1,8 +1,8 @@
 -- What each call answers and leaves: its tests by rising number, and what it writes.
 use Prim.Native.Nat.{ℕ, _+_, _-_}
 use mathlib.Core.Path.{_≡_}
-use mathlib.Core.Bool.{Bool, true, false, cond}
-use mathlib.Core.List.{List, [], _∷_, _++_, map}
+use mathlib.Core.Bool.{cond}
+use mathlib.Core.List.{List, _++_, map}
 use lib.ListN.{length, drop, replicate}
 use lib.Dec.{leb, ltb}
 use Rattle.std.specs.declared.option.Option.{Option}
@@ -13,7 +13,7 @@ use Rattle.records.specs.declared.Record.{Record}
 use Rattle.numbers.specs.Puts.{nextPlace}
 use Rattle.format.specs.Trees.{recAt}
 use Rattle.format.specs.Types.{recordsAt}
-use Rattle.format.specs.Moves.{moved, sliced}
+use Rattle.format.specs.Moves.{moved}
 use Rattle.format.specs.Rules.{firstBroken}
 use Rattle.format.specs.Cells.{leads, found}
 use Rattle.columns.specs.declared.cells.Cell.{Cell}

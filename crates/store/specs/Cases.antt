@@ -1,12 +1,10 @@
 -- The worked cases, computed by the checker from the definitions that the calls' contracts use.
 use Prim.Native.Nat.{ℕ}
 use mathlib.Core.Path.{_≡_}
-use mathlib.Core.List.{List, [], _∷_}
+use mathlib.Core.List.{[], _∷_}
 use lib.ListN.{replicate}
 use Rattle.records.specs.declared.Record.{Record}
-use Rattle.numbers.specs.Puts.{nextPlace}
 use Rattle.format.specs.Trees.{nothing}
-use Rattle.store.specs.declared.marks.Marks.{Marks}
 use Rattle.store.specs.Stores.{Store, store, grown}
 use Rattle.store.specs.Calls.{made, admitTold, admitted, admittedBytes}
 

@@ -13,7 +13,7 @@ use Rattle.format.specs.Meaning.{row}
 use Rattle.format.specs.Rules.{WellFormed}
 use Rattle.format.specs.Promises.{SameRows, Stretch}
 use Rattle.columns.specs.declared.cells.Cell.{Cell}
-use Rattle.columns.specs.Held.{Held, nothing, bit, text, held}
+use Rattle.columns.specs.Held.{Held, noValue, bit, text, held}
 use Rattle.store.specs.declared.fault.Fault.{Fault}
 use Rattle.store.specs.Stores.{Store, standing, written}
 
@@ -22,28 +22,28 @@ abbrev pub Stays : Store → Store → Type 0
 Stays s t = (q : ℕ) → WellFormed (written s) (standing s) q → SameRows (written s) (standing s) q (written t) (standing t) q
 
 -- the slice is well formed, and its row i is row f + i of its input
-abbrev pub Sliced : Result ℕ Fault → Store → Store → ℕ → ℕ → ℕ → Type 0
-Sliced (Ok place) s t q f n = Stretch (written s) (standing s) q f n (written t) (standing t) place
-Sliced (Err fault) s t q f n = Unit {0}
+abbrev pub SliceHasRows : Result ℕ Fault → Store → Store → ℕ → ℕ → ℕ → Type 0
+SliceHasRows (Ok place) s t q f n = Stretch (written s) (standing s) q f n (written t) (standing t) place
+SliceHasRows (Err fault) s t q f n = Unit {0}
 
 -- the admitted column is well formed, and its rows are those of the column handed in
-abbrev pub Admitted : Result ℕ Fault → Store → Store → List Record → List ℕ → Type 0
-Admitted (Ok place) s t rs bs = SameRows bs rs 0 (written t) (standing t) place
-Admitted (Err fault) s t rs bs = Unit {0}
+abbrev pub AdmitHasRows : Result ℕ Fault → Store → Store → List Record → List ℕ → Type 0
+AdmitHasRows (Ok place) s t rs bs = SameRows bs rs 0 (written t) (standing t) place
+AdmitHasRows (Err fault) s t rs bs = Unit {0}
 
 -- the row that a cell holds
 abbrev pub heldRow : Held → Row
-heldRow nothing = null
+heldRow noValue = null
 heldRow (bit b) = rows.bit b
 heldRow (text place s) = raw s
 
 -- the bytes of a cell are the part of the byte memory at its place, below the mark
 abbrev pub HeldIn : Store → Held → Type 0
-HeldIn s nothing = Unit {0}
+HeldIn s noValue = Unit {0}
 HeldIn s (bit b) = Unit {0}
 HeldIn s (text place xs) = (place + length xs ≤ s .marks .bytes) × (part (s .bytes) place (length xs) ≡ xs)
 
 -- the cell is the row of the column
-abbrev pub Shows : Result Cell Fault → Store → ℕ → ℕ → Type 0
-Shows (Ok c) s q i = (heldRow (held c) ≡ row (written s) (standing s) q i) × HeldIn s (held c)
-Shows (Err fault) s q i = Unit {0}
+abbrev pub CellHasRow : Result Cell Fault → Store → ℕ → ℕ → Type 0
+CellHasRow (Ok c) s q i = (heldRow (held c) ≡ row (written s) (standing s) q i) × HeldIn s (held c)
+CellHasRow (Err fault) s q i = Unit {0}

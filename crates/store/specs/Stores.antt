@@ -1,11 +1,11 @@
 -- A store: its two memories and its two marks.
 use Prim.Native.Nat.{ℕ, _+_, _-_}
 use mathlib.Core.Bool.{Bool, true, cond}
-use mathlib.Core.List.{List, _++_, map}
-use lib.ListN.{length, take, replicate}
+use mathlib.Core.List.{List}
+use lib.ListN.{length, take}
 use lib.Dec.{ltb}
 use Rattle.records.specs.declared.Record.{Record}
-use Rattle.numbers.specs.Puts.{put, nextPlace}
+use Rattle.numbers.specs.Puts.{put}
 use Rattle.store.specs.declared.marks.Marks.{Marks}
 
 pub record Store : Type 0 where

@@ -1,16 +1,16 @@
 ghost use mathlib.Core.Path.{_≡_};
-ghost use mathlib.Core.Bool.{Bool, true, false};
-ghost use mathlib.Core.List.{List, _∷_, [], _++_, map};
-ghost use Prim.Native.Nat.{ℕ, _+_, _-_, _*_, _/_, _^_, _<_, _≤_};
+ghost use mathlib.Core.Bool.{true};
+ghost use mathlib.Core.List.{_∷_, [], map};
+ghost use Prim.Native.Nat.{_+_, _-_, _/_, _^_, _<_, _≤_};
 ghost use lib.ListN.{length, take, replicate};
-ghost use lib.Dec.{leb, ltb, eqb};
+ghost use lib.Dec.{ltb};
 ghost use Rattle.std.specs.shelf.Lists.{All};
 ghost use Rattle.numbers.specs.Puts.{put, part};
 ghost use Rattle.format.specs.Trees.{recAt};
 ghost use Rattle.format.specs.Moves.{window, moved, sliced};
 ghost use Rattle.store.specs.Stores.{store, torn, standing};
 ghost use Rattle.store.specs.Calls.{told, toldCell, sliceTold, Leaves, admitTold, admitted, admittedBytes, cellTold};
-ghost use Rattle.store.specs.Promises.{Stays, Sliced, Admitted, Shows};
+ghost use Rattle.store.specs.Promises.{Stays, SliceHasRows, AdmitHasRows, CellHasRow};
 ghost use Rattle.store.specs.Movable.{Movable};
 use super::fault::Fault;
 use super::marks::Marks;
@@ -119,7 +119,7 @@ pub fn slice(
 ) -> Result<u64, Fault>
     ensures answer { λ r. ⌜ told r ≡ sliceTold (store (now (records .entry)) (now (bytes .entry)) (now (marks .entry))) place first rows ⌝ }
     ensures after { λ r. ⌜ Leaves r (store (now (records .entry)) (now (bytes .entry)) (now (marks .entry))) (store (now (records .exit)) (now (bytes .entry)) (now (marks .exit))) (sliced (standing (store (now (records .entry)) (now (bytes .entry)) (now (marks .entry)))) place first rows) [] ⌝ }
-    ensures rows { λ r. ⌜ Sliced r (store (now (records .entry)) (now (bytes .entry)) (now (marks .entry))) (store (now (records .exit)) (now (bytes .entry)) (now (marks .exit))) place first rows ⌝ }
+    ensures rows { λ r. ⌜ SliceHasRows r (store (now (records .entry)) (now (bytes .entry)) (now (marks .entry))) (store (now (records .exit)) (now (bytes .entry)) (now (marks .exit))) place first rows ⌝ }
     ensures stays { λ _. ⌜ Stays (store (now (records .entry)) (now (bytes .entry)) (now (marks .entry))) (store (now (records .exit)) (now (bytes .entry)) (now (marks .exit))) ⌝ }
 {
     make_slice(records, bytes, marks, place, first, rows)
@@ -198,7 +198,7 @@ pub fn admit(
 ) -> Result<u64, Fault>
     ensures answer { λ r. ⌜ told r ≡ admitTold (store (now (records .entry)) (now (bytes .entry)) (now (marks .entry))) (now (column .entry)) (now (source .entry)) ⌝ }
     ensures after { λ r. ⌜ Leaves r (store (now (records .entry)) (now (bytes .entry)) (now (marks .entry))) (store (now (records .exit)) (now (bytes .exit)) (now (marks .exit))) (admitted (now (marks .entry) .bytes) (now (column .entry))) (admittedBytes (now (marks .entry) .bytes) (now (source .entry))) ⌝ }
-    ensures rows { λ r. ⌜ Admitted r (store (now (records .entry)) (now (bytes .entry)) (now (marks .entry))) (store (now (records .exit)) (now (bytes .exit)) (now (marks .exit))) (now (column .entry)) (now (source .entry)) ⌝ }
+    ensures rows { λ r. ⌜ AdmitHasRows r (store (now (records .entry)) (now (bytes .entry)) (now (marks .entry))) (store (now (records .exit)) (now (bytes .exit)) (now (marks .exit))) (now (column .entry)) (now (source .entry)) ⌝ }
     ensures stays { λ _. ⌜ Stays (store (now (records .entry)) (now (bytes .entry)) (now (marks .entry))) (store (now (records .exit)) (now (bytes .exit)) (now (marks .exit))) ⌝ }
 {
     bring_in(records, bytes, marks, column, source)
@@ -240,7 +240,7 @@ pub fn cell<'m>(
     row: u64,
 ) -> Result<Cell<'m>, Fault>
     ensures answer { λ r. ⌜ toldCell r ≡ cellTold (store (now (records .entry)) (now (bytes .entry)) (now (marks .entry))) place row ⌝ }
-    ensures row { λ r. ⌜ Shows r (store (now (records .entry)) (now (bytes .entry)) (now (marks .entry))) place row ⌝ }
+    ensures row { λ r. ⌜ CellHasRow r (store (now (records .entry)) (now (bytes .entry)) (now (marks .entry))) place row ⌝ }
 {
     read_cell(records, bytes, marks, place, row)
 }

@@ -1,5 +1,4 @@
 use mathlib.Core.Path.{refl}
-use Rattle.format.specs.Examples.{Examples}
 use Rattle.format.proofs.worked_examples.Needs as need
 
 pub returns : need.returns

@@ -1,7 +1,6 @@
 use native.Mathlib.Omega.{arith}
 use Prim.Native.Nat.{_-_}
 use mathlib.Core.Path.{sym, _∙_}
-use Rattle.check.specs.Tests.{walk, reaches}
 use Rattle.check.proofs.Loops.{walk-more, walk-stop, walk-done}
 use Rattle.check.proofs.column.children_ok.Needs as need
 

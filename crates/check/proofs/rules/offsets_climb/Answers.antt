@@ -1,9 +1,8 @@
 use native.Mathlib.Omega.{arith}
 use Prim.Native.Nat.{_+_, _-_}
-use mathlib.Core.Path.{_≡_, refl, sym, ap, _∙_}
-use mathlib.Core.List.{List, map}
-use mathlib.Core.Bool.{Bool}
-use lib.Dec.{leb, ltb}
+use mathlib.Core.Path.{refl, sym, ap, _∙_}
+use mathlib.Core.List.{map}
+use lib.Dec.{leb}
 use lib.ListN.{length}
 use Rattle.std.specs.Iters.{counting}
 use Rattle.numbers.specs.Little.{notNegative}

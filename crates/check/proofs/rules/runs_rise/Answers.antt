@@ -1,14 +1,13 @@
 use native.Mathlib.Omega.{arith}
 use Prim.Native.Nat.{_+_, _-_}
-use mathlib.Core.Path.{_≡_, refl, sym, ap, _∙_}
-use mathlib.Core.List.{List, map}
-use mathlib.Core.Bool.{Bool}
-use lib.Dec.{leb, ltb}
+use mathlib.Core.Path.{refl, sym, ap, _∙_}
+use mathlib.Core.List.{map}
+use lib.Dec.{ltb}
 use lib.ListN.{length}
 use Rattle.std.specs.Iters.{counting}
 use Rattle.numbers.specs.Little.{notNegative}
 use Rattle.format.specs.Meaning.{number}
-use Rattle.format.specs.Rules.{both, endOf}
+use Rattle.format.specs.Rules.{both}
 use Rattle.format.proofs.Carry.{in-room}
 use Rattle.check.specs.Tests.{rising}
 use Rattle.check.proofs.Loops.{turn-at, chain-more, chain-stop, some-of, none-of}

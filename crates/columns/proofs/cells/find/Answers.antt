@@ -1,10 +1,7 @@
 use native.Mathlib.Omega.{arith}
-use mathlib.Core.Path.{_≡_, refl, sym, ap, _∙_}
-use Prim.Native.Nat.{_+_, _≤_, _<_}
-use mathlib.Core.Bool.{true}
-use lib.ListN.{length}
+use mathlib.Core.Path.{refl, sym, ap, _∙_}
 use Rattle.format.specs.Trees.{recAt}
-use Rattle.format.specs.Rules.{childrenAt, ruledAt}
+use Rattle.format.specs.Rules.{childrenAt}
 use Rattle.format.proofs.Known.{right}
 use Rattle.columns.specs.Held.{held, shown}
 use Rattle.columns.proofs.Ways.{readable, ruled-in, onward, arrived}

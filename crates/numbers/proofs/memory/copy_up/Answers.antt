@@ -1,5 +1,5 @@
 use native.Mathlib.Omega.{arith}
-use mathlib.Core.Path.{_≡_, ap, _∙_, sym}
+use mathlib.Core.Path.{_≡_, sym}
 use Rattle.numbers.specs.Puts.{part}
 use Rattle.std.proofs.shelf.Edits.{paste-none, paste-all}
 use Rattle.numbers.proofs.Places.{copy-step, length-part}

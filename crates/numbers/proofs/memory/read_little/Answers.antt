@@ -1,6 +1,6 @@
 use native.Mathlib.Omega.{arith}
-use mathlib.Core.Path.{_≡_, ap, _∙_, sym}
-use Prim.Native.Nat.{_-_, _+_, _*_, _^_, _<_}
+use mathlib.Core.Path.{_≡_, ap}
+use Prim.Native.Nat.{_-_, _+_}
 use Rattle.numbers.specs.Little.{little}
 use Rattle.numbers.proofs.Numbers.{fits-next, below-top, front-step}
 use Rattle.numbers.proofs.memory.read_little.Needs as need

@@ -1,7 +1,7 @@
 use native.Mathlib.Omega.{arith}
 use native.Mathlib.Nat.{div-one}
-use mathlib.Core.Path.{_≡_, ap, _∙_, sym}
-use Prim.Native.Nat.{_-_, _+_, _*_, _^_, _<_, _≤_}
+use mathlib.Core.Path.{_≡_, sym}
+use Prim.Native.Nat.{_-_, _<_}
 use lib.ListN.{length}
 use Rattle.numbers.specs.Little.{bytesOf}
 use Rattle.std.proofs.shelf.Edits.{paste-none, paste-more, paste-all}

@@ -1,8 +1,8 @@
 use borrow.Author.Needs.{needs}
 use native.Mathlib.Omega.{arith}
-use Prim.Native.Nat.{_+_, _≤_}
-use mathlib.Core.Path.{_≡_, sym, ap, _∙_}
-use lib.ListN.{length, take}
+use Prim.Native.Nat.{_+_}
+use mathlib.Core.Path.{sym}
+use lib.ListN.{length}
 use Rattle.std.proofs.shelf.Tests.{ltb-false}
 use Rattle.std.proofs.shelf.Lists.{length-take-le}
 use Rattle.format.specs.Trees.{recAt}

@@ -1,11 +1,10 @@
 use borrow.Author.Needs.{needs}
 use native.Mathlib.Omega.{arith}
-use Prim.Native.Nat.{_+_, _≤_}
-use mathlib.Core.Path.{_≡_, sym, ap, _∙_}
-use lib.ListN.{length, take}
+use Prim.Native.Nat.{_+_}
+use mathlib.Core.Path.{sym, ap}
+use lib.ListN.{length}
 use Rattle.std.proofs.shelf.Tests.{ltb-false}
 use Rattle.std.proofs.shelf.Lists.{length-take-le}
-use Rattle.format.specs.Trees.{recAt}
 use Rattle.format.specs.Rules.{endOf}
 use Rattle.format.proofs.Known.{Right, right}
 use Rattle.store.specs.Stores.{store, standing, written}

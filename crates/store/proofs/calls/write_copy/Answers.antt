@@ -1,6 +1,6 @@
 use native.Mathlib.Omega.{arith}
 use Prim.Native.Nat.{_+_, _-_}
-use mathlib.Core.Path.{_≡_, ap, _∙_, sym}
+use mathlib.Core.Path.{_∙_}
 use Rattle.store.proofs.Copies.{head-and-part}
 use Rattle.store.proofs.calls.write_copy.Needs as need
 

@@ -1,5 +1,4 @@
 use mathlib.Core.Path.{refl}
-use Rattle.store.specs.Cases.{Cases}
 use Rattle.store.proofs.cases.worked_cases.Needs as need
 
 pub returns : need.returns
