@@ -21,7 +21,7 @@ use Rattle.columns.specs.Held.{Held, held, shown}
 use Rattle.store.specs.declared.fault.Fault.{Fault}
 use Rattle.store.specs.Stores.{Store, standing, written, torn}
 use Rattle.store.specs.Calls.{made, refuse, toldCell, cellTold}
-use Rattle.store.specs.Promises.{heldRow, HeldIn, CellHasRow}
+use Rattle.store.specs.Promises.{heldRow, HeldIn, CellHasRow, CellContract}
 use Rattle.store.proofs.Grown.{marks-in, long-written, not-torn, not-broken}
 
 shown-row : (bs : List ℕ) (f : Found) → heldRow (shown bs f) ≡ foundRow bs f
@@ -43,9 +43,9 @@ leading : (t : Bool) (h g : Held) → cond t (made h) (refuse 9 0 0) ≡ made g 
 leading true h g e = (refl, cc)
 leading false h g e = let z : _≡_ {A = ℕ} 0 1 = cc in absurd (omega arith)
 
-pub cell-promise : (s : Store) (r : Result Cell Fault) (q i : ℕ) → toldCell r ≡ cellTold s q i → CellHasRow r s q i
-cell-promise s (Err fault) q i e = tt
-cell-promise s (Ok c) q i e =
+cell-row : (s : Store) (r : Result Cell Fault) (q i : ℕ) → toldCell r ≡ cellTold s q i → CellHasRow r s q i
+cell-row s (Err fault) q i e = tt
+cell-row s (Ok c) q i e =
     let f : Found = found (written s) (drop q (standing s)) i in
     let a = not-torn (torn s) 1 0 0 _ (held c) (sym e) in
     let b = not-broken (firstBroken (written s) (standing s) q) _ (held c) (a .1) in
@@ -55,3 +55,6 @@ cell-promise s (Ok c) q i e =
       ap heldRow (g .1) ∙ shown-row (written s) f ∙ k .1 (g .0),
       subst (HeldIn s) (sym (g .1)) (shown-in s (a .0) f (k .0)),
     )
+
+pub cell-promise : (s : Store) (r : Result Cell Fault) (q i : ℕ) → toldCell r ≡ cellTold s q i → CellContract r s q i
+cell-promise s r q i e = record { answer = e; row = cell-row s r q i e }

@@ -21,8 +21,8 @@ use Rattle.format.specs.Promises.{SameRows, Stretch}
 use Rattle.format.proofs.Moves.{still, brought-in, cut-out, same-here}
 use Rattle.store.specs.declared.fault.Fault.{Fault}
 use Rattle.store.specs.Stores.{Store, standing, written, torn, grown}
-use Rattle.store.specs.Calls.{Told, made, refuse, told, orBroken, Leaves, sliceTold, admitTold, admitted, admittedBytes}
-use Rattle.store.specs.Promises.{Stays, SliceHasRows, AdmitHasRows}
+use Rattle.store.specs.Calls.{Told, made, refuse, told, orBroken, Leaves, sliceTold, admitTold, admitted, admittedBytes, SliceSettles, AdmitSettles}
+use Rattle.store.specs.Promises.{Stays, SliceHasRows, AdmitHasRows, SliceContract, AdmitContract}
 
 -- what lies below a mark that moved behind what was written
 pub take-put-all : {X : Type 0} (at : ℕ) (s d : List X) → at ≤ length d → take (at + length s) (put at s d) ≡ take at d ++ s
@@ -78,9 +78,9 @@ not-broken (Some at) x p e = let z : _≡_ {A = ℕ} 0 1 = cc in absurd (omega a
 made-place : (p q : ℕ) → made p ≡ made q → q ≡ p
 made-place p q e = cc
 
-pub slice-promise : (s t : Store) (r : Result ℕ Fault) (q f n : ℕ) → told r ≡ sliceTold s q f n → Leaves r s t (sliced (standing s) q f n) [] → SliceHasRows r s t q f n × Stays s t
-slice-promise s t (Err fault) q f n e l = (tt, subst (Stays s) (sym l) (same-stays s))
-slice-promise s t (Ok p) q f n e l =
+slice-rows : (s t : Store) (r : Result ℕ Fault) (q f n : ℕ) → told r ≡ sliceTold s q f n → Leaves r s t (sliced (standing s) q f n) [] → SliceHasRows r s t q f n × Stays s t
+slice-rows s t (Err fault) q f n e l = (tt, subst (Stays s) (sym l) (same-stays s))
+slice-rows s t (Ok p) q f n e l =
     let rs : List Record = sliced (standing s) q f n in
     let a = not-torn (torn s) 1 0 0 _ p (sym e) in
     let b = not-broken (firstBroken (written s) (standing s) q) _ p (a .1) in
@@ -96,10 +96,10 @@ slice-promise s t (Ok p) q f n e l =
       subst (Stays s) (sym l) (grown-stays s (a .0) rs []),
     )
 
-pub admit-promise : (s t : Store) (r : Result ℕ Fault) (C : List Record) (D : List ℕ) → told r ≡ admitTold s C D
+admit-rows : (s t : Store) (r : Result ℕ Fault) (C : List Record) (D : List ℕ) → told r ≡ admitTold s C D
     → Leaves r s t (admitted (s .marks .bytes) C) (admittedBytes (s .marks .bytes) D) → AdmitHasRows r s t C D × Stays s t
-admit-promise s t (Err fault) C D e l = (tt, subst (Stays s) (sym l) (same-stays s))
-admit-promise s t (Ok p) C D e l =
+admit-rows s t (Err fault) C D e l = (tt, subst (Stays s) (sym l) (same-stays s))
+admit-rows s t (Ok p) C D e l =
     let m : ℕ = s .marks .bytes in
     let gap : List ℕ = replicate (nextPlace (s .marks .bytes) - s .marks .bytes) 0 in
     let rs : List Record = admitted (s .marks .bytes) C in
@@ -119,3 +119,9 @@ admit-promise s t (Ok p) C D e l =
       subst (λ x. SameRows D C 0 (written x) (standing x) p) (sym l) here,
       subst (Stays s) (sym l) (grown-stays s (a .0) rs bs),
     )
+
+pub slice-promise : (s t : Store) (r : Result ℕ Fault) (q f n : ℕ) → SliceSettles r s t q f n → SliceContract r s t q f n
+slice-promise s t r q f n h = let p = slice-rows s t r q f n (h .answer) (h .leaves) in record { settles = h; rows = p .0; stays = p .1 }
+
+pub admit-promise : (s t : Store) (r : Result ℕ Fault) (C : List Record) (D : List ℕ) → AdmitSettles r s t C D → AdmitContract r s t C D
+admit-promise s t r C D h = let p = admit-rows s t r C D (h .answer) (h .leaves) in record { settles = h; rows = p .0; stays = p .1 }

@@ -2,7 +2,7 @@
 use Prim.Native.Nat.{ℕ, _+_, _-_}
 use mathlib.Core.Path.{_≡_}
 use mathlib.Core.Bool.{cond}
-use mathlib.Core.List.{List, _++_, map}
+use mathlib.Core.List.{List, [], _++_, map}
 use lib.ListN.{length, drop, replicate}
 use lib.Dec.{leb, ltb}
 use Rattle.std.specs.declared.option.Option.{Option}
@@ -13,7 +13,7 @@ use Rattle.records.specs.declared.Record.{Record}
 use Rattle.numbers.specs.Puts.{nextPlace}
 use Rattle.format.specs.Trees.{recAt}
 use Rattle.format.specs.Types.{recordsAt}
-use Rattle.format.specs.Moves.{moved}
+use Rattle.format.specs.Moves.{moved, sliced}
 use Rattle.format.specs.Rules.{firstBroken}
 use Rattle.format.specs.Cells.{leads, found}
 use Rattle.columns.specs.declared.cells.Cell.{Cell}
@@ -50,6 +50,11 @@ abbrev pub Leaves : Result ℕ Fault → Store → Store → List Record → Lis
 Leaves (Ok place) before after rs bs = after ≡ grown before rs bs
 Leaves (Err fault) before after rs bs = after ≡ before
 
+-- what a call that makes a column settles, accepted or refused: its answer, and all of the store after it
+pub record Settles (r : Result ℕ Fault) (before after : Store) (want : Told ℕ) (rs : List Record) (bs : List ℕ) : Type 0 where
+  pub answer : told r ≡ want
+  pub leaves : Leaves r before after rs bs
+
 -- SLICE: n rows from row f on of the column at place q
 abbrev pub sliceTold : Store → ℕ → ℕ → ℕ → Told ℕ
 sliceTold s q f n =
@@ -58,6 +63,9 @@ sliceTold s q f n =
     (cond (ltb (recAt (standing s) q .length) (f + n)) (refuse 8 0 0)
     (cond (ltb (length (s .records)) (s .marks .records + recAt (standing s) q .span)) (refuse 15 0 0)
     (made (s .marks .records)))))
+
+abbrev pub SliceSettles : Result ℕ Fault → Store → Store → ℕ → ℕ → ℕ → Type 0
+SliceSettles r s t q f n = Settles r s t (sliceTold s q f n) (sliced (standing s) q f n) []
 
 -- ADMIT: an outside column, its records rs and its bytes bs. Their numbers stand for the marks in its rules.
 abbrev pub admitTold : Store → List Record → List ℕ → Told ℕ
@@ -73,6 +81,9 @@ admitted m rs = map (moved (nextPlace m)) (recordsAt rs 0)
 
 abbrev pub admittedBytes : ℕ → List ℕ → List ℕ
 admittedBytes m bs = replicate (nextPlace m - m) 0 ++ bs
+
+abbrev pub AdmitSettles : Result ℕ Fault → Store → Store → List Record → List ℕ → Type 0
+AdmitSettles r s t rs bs = Settles r s t (admitTold s rs bs) (admitted (s .marks .bytes) rs) (admittedBytes (s .marks .bytes) bs)
 
 -- CELL: row i of the column at place q, through keys and runs. It changes nothing.
 abbrev pub cellTold : Store → ℕ → ℕ → Told Held

@@ -1,4 +1,4 @@
--- What the calls promise, in the words of the format.
+-- What the calls promise: what they settle, and what this means in the words of the format.
 use Prim.Native.Nat.{ℕ, _+_, _≤_}
 use mathlib.Core.Path.{_≡_}
 use mathlib.Core.List.{List}
@@ -16,6 +16,7 @@ use Rattle.columns.specs.declared.cells.Cell.{Cell}
 use Rattle.columns.specs.Held.{Held, noValue, bit, text, held}
 use Rattle.store.specs.declared.fault.Fault.{Fault}
 use Rattle.store.specs.Stores.{Store, standing, written}
+use Rattle.store.specs.Calls.{SliceSettles, AdmitSettles, toldCell, cellTold}
 
 -- every column that was well formed before still is, with the same rows
 abbrev pub Stays : Store → Store → Type 0
@@ -47,3 +48,18 @@ HeldIn s (text place xs) = (place + length xs ≤ s .marks .bytes) × (part (s .
 abbrev pub CellHasRow : Result Cell Fault → Store → ℕ → ℕ → Type 0
 CellHasRow (Ok c) s q i = (heldRow (held c) ≡ row (written s) (standing s) q i) × HeldIn s (held c)
 CellHasRow (Err fault) s q i = Unit {0}
+
+-- THE CONTRACTS: s is the store before the call, t the store after it
+pub record SliceContract (r : Result ℕ Fault) (s t : Store) (q f n : ℕ) : Type 0 where
+  pub settles : SliceSettles r s t q f n
+  pub rows : SliceHasRows r s t q f n
+  pub stays : Stays s t
+
+pub record AdmitContract (r : Result ℕ Fault) (s t : Store) (rs : List Record) (bs : List ℕ) : Type 0 where
+  pub settles : AdmitSettles r s t rs bs
+  pub rows : AdmitHasRows r s t rs bs
+  pub stays : Stays s t
+
+pub record CellContract (r : Result Cell Fault) (s : Store) (q i : ℕ) : Type 0 where
+  pub answer : toldCell r ≡ cellTold s q i
+  pub row : CellHasRow r s q i

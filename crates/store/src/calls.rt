@@ -1,16 +1,16 @@
 ghost use mathlib.Core.Path.{_≡_};
 ghost use mathlib.Core.Bool.{true};
-ghost use mathlib.Core.List.{_∷_, [], map};
+ghost use mathlib.Core.List.{_∷_, map};
 ghost use Prim.Native.Nat.{_+_, _-_, _/_, _^_, _<_, _≤_};
 ghost use lib.ListN.{length, take, replicate};
 ghost use lib.Dec.{ltb};
 ghost use Rattle.std.specs.shelf.Lists.{All};
 ghost use Rattle.numbers.specs.Puts.{put, part};
 ghost use Rattle.format.specs.Trees.{recAt};
-ghost use Rattle.format.specs.Moves.{window, moved, sliced};
+ghost use Rattle.format.specs.Moves.{window, moved};
 ghost use Rattle.store.specs.Stores.{store, torn, standing};
-ghost use Rattle.store.specs.Calls.{told, toldCell, sliceTold, Leaves, admitTold, admitted, admittedBytes, cellTold};
-ghost use Rattle.store.specs.Promises.{Stays, SliceHasRows, AdmitHasRows, CellHasRow};
+ghost use Rattle.store.specs.Calls.{toldCell, SliceSettles, AdmitSettles, cellTold};
+ghost use Rattle.store.specs.Promises.{SliceContract, AdmitContract, CellContract};
 ghost use Rattle.store.specs.Movable.{Movable};
 use super::fault::Fault;
 use super::marks::Marks;
@@ -80,8 +80,7 @@ fn make_slice(
     first: u64,
     rows: u64,
 ) -> Result<u64, Fault>
-    ensures answer { λ r. ⌜ told r ≡ sliceTold (store (now (records .entry)) (now (bytes .entry)) (now (marks .entry))) place first rows ⌝ }
-    ensures after { λ r. ⌜ Leaves r (store (now (records .entry)) (now (bytes .entry)) (now (marks .entry))) (store (now (records .exit)) (now (bytes .entry)) (now (marks .exit))) (sliced (standing (store (now (records .entry)) (now (bytes .entry)) (now (marks .entry)))) place first rows) [] ⌝ }
+    ensures { λ r. ⌜ SliceSettles r (store (now (records .entry)) (now (bytes .entry)) (now (marks .entry))) (store (now (records .exit)) (now (bytes .entry)) (now (marks .exit))) place first rows ⌝ }
 {
     if is_torn(records, bytes, marks) {
         return Err(Fault::Torn);
@@ -117,10 +116,7 @@ pub fn slice(
     first: u64,
     rows: u64,
 ) -> Result<u64, Fault>
-    ensures answer { λ r. ⌜ told r ≡ sliceTold (store (now (records .entry)) (now (bytes .entry)) (now (marks .entry))) place first rows ⌝ }
-    ensures after { λ r. ⌜ Leaves r (store (now (records .entry)) (now (bytes .entry)) (now (marks .entry))) (store (now (records .exit)) (now (bytes .entry)) (now (marks .exit))) (sliced (standing (store (now (records .entry)) (now (bytes .entry)) (now (marks .entry)))) place first rows) [] ⌝ }
-    ensures rows { λ r. ⌜ SliceHasRows r (store (now (records .entry)) (now (bytes .entry)) (now (marks .entry))) (store (now (records .exit)) (now (bytes .entry)) (now (marks .exit))) place first rows ⌝ }
-    ensures stays { λ _. ⌜ Stays (store (now (records .entry)) (now (bytes .entry)) (now (marks .entry))) (store (now (records .exit)) (now (bytes .entry)) (now (marks .exit))) ⌝ }
+    ensures { λ r. ⌜ SliceContract r (store (now (records .entry)) (now (bytes .entry)) (now (marks .entry))) (store (now (records .exit)) (now (bytes .entry)) (now (marks .exit))) place first rows ⌝ }
 {
     make_slice(records, bytes, marks, place, first, rows)
 }
@@ -163,8 +159,7 @@ fn bring_in(
     column: &[Record],
     source: &[u8],
 ) -> Result<u64, Fault>
-    ensures answer { λ r. ⌜ told r ≡ admitTold (store (now (records .entry)) (now (bytes .entry)) (now (marks .entry))) (now (column .entry)) (now (source .entry)) ⌝ }
-    ensures after { λ r. ⌜ Leaves r (store (now (records .entry)) (now (bytes .entry)) (now (marks .entry))) (store (now (records .exit)) (now (bytes .exit)) (now (marks .exit))) (admitted (now (marks .entry) .bytes) (now (column .entry))) (admittedBytes (now (marks .entry) .bytes) (now (source .entry))) ⌝ }
+    ensures { λ r. ⌜ AdmitSettles r (store (now (records .entry)) (now (bytes .entry)) (now (marks .entry))) (store (now (records .exit)) (now (bytes .exit)) (now (marks .exit))) (now (column .entry)) (now (source .entry)) ⌝ }
 {
     if is_torn(records, bytes, marks) {
         return Err(Fault::Torn);
@@ -196,10 +191,7 @@ pub fn admit(
     column: &[Record],
     source: &[u8],
 ) -> Result<u64, Fault>
-    ensures answer { λ r. ⌜ told r ≡ admitTold (store (now (records .entry)) (now (bytes .entry)) (now (marks .entry))) (now (column .entry)) (now (source .entry)) ⌝ }
-    ensures after { λ r. ⌜ Leaves r (store (now (records .entry)) (now (bytes .entry)) (now (marks .entry))) (store (now (records .exit)) (now (bytes .exit)) (now (marks .exit))) (admitted (now (marks .entry) .bytes) (now (column .entry))) (admittedBytes (now (marks .entry) .bytes) (now (source .entry))) ⌝ }
-    ensures rows { λ r. ⌜ AdmitHasRows r (store (now (records .entry)) (now (bytes .entry)) (now (marks .entry))) (store (now (records .exit)) (now (bytes .exit)) (now (marks .exit))) (now (column .entry)) (now (source .entry)) ⌝ }
-    ensures stays { λ _. ⌜ Stays (store (now (records .entry)) (now (bytes .entry)) (now (marks .entry))) (store (now (records .exit)) (now (bytes .exit)) (now (marks .exit))) ⌝ }
+    ensures { λ r. ⌜ AdmitContract r (store (now (records .entry)) (now (bytes .entry)) (now (marks .entry))) (store (now (records .exit)) (now (bytes .exit)) (now (marks .exit))) (now (column .entry)) (now (source .entry)) ⌝ }
 {
     bring_in(records, bytes, marks, column, source)
 }
@@ -239,8 +231,7 @@ pub fn cell<'m>(
     place: u64,
     row: u64,
 ) -> Result<Cell<'m>, Fault>
-    ensures answer { λ r. ⌜ toldCell r ≡ cellTold (store (now (records .entry)) (now (bytes .entry)) (now (marks .entry))) place row ⌝ }
-    ensures row { λ r. ⌜ CellHasRow r (store (now (records .entry)) (now (bytes .entry)) (now (marks .entry))) place row ⌝ }
+    ensures { λ r. ⌜ CellContract r (store (now (records .entry)) (now (bytes .entry)) (now (marks .entry))) place row ⌝ }
 {
     read_cell(records, bytes, marks, place, row)
 }

@@ -4,5 +4,4 @@ use Rattle.store.proofs.calls.admit.Needs as need
 
 pub returns : need.returns
 returns c =
-    let p = admit-promise (store (c .args .records .now) (c .args .bytes .now) (c .args .marks .now)) (store (c .bring-in .last .records) (c .bring-in .last .bytes) (c .bring-in .last .marks)) (c .bring-in .result) (c .args .column .now) (c .args .source .now) (c .bring-in .ensures .answer) (c .bring-in .ensures .after) in
-    record { answer = c .bring-in .ensures .answer; after = c .bring-in .ensures .after; rows = p .0; stays = p .1 }
+    admit-promise (store (c .args .records .now) (c .args .bytes .now) (c .args .marks .now)) (store (c .bring-in .last .records) (c .bring-in .last .bytes) (c .bring-in .last .marks)) (c .bring-in .result) (c .args .column .now) (c .args .source .now) (c .bring-in .ensures)

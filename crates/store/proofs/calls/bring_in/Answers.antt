@@ -27,5 +27,5 @@ write-moved-requires c κs =
 pub returns : need.returns
 returns c = record {
   answer = search needs;
-  after = admit-grown (store (c .args .records .now) (c .args .bytes .now) (c .args .marks .now)) (c .args .column .now) (c .args .source .now) (c .next-place-base .result) (c .write-moved .last .records) (c .write-data .last .bytes) (ok (need.at·returns c .In-rest)) (c .next-place-base .ensures) (c .write-moved .ensures) (search needs) (c .write-data .ensures);
+  leaves = admit-grown (store (c .args .records .now) (c .args .bytes .now) (c .args .marks .now)) (c .args .column .now) (c .args .source .now) (c .next-place-base .result) (c .write-moved .last .records) (c .write-data .last .bytes) (ok (need.at·returns c .In-rest)) (c .next-place-base .ensures) (c .write-moved .ensures) (search needs) (c .write-data .ensures);
 }

@@ -4,7 +4,4 @@ use Rattle.store.proofs.calls.cell.Needs as need
 
 pub returns : need.returns
 returns c =
-    record {
-      answer = c .read-cell .ensures;
-      row = cell-promise (store (c .args .records .now) (c .args .bytes .now) (c .args .marks .now)) (c .read-cell .result) (c .args .place) (c .args .row) (c .read-cell .ensures);
-    }
+    cell-promise (store (c .args .records .now) (c .args .bytes .now) (c .args .marks .now)) (c .read-cell .result) (c .args .place) (c .args .row) (c .read-cell .ensures)

@@ -34,5 +34,5 @@ write-copy-requires c κs =
 pub returns : need.returns
 returns c = record {
   answer = search needs;
-  after = slice-grown (store (c .args .records .now) (c .args .bytes .now) (c .args .marks .now)) (c .args .place) (c .args .first) (c .args .rows) (c .read-below-r .result) (c .windowed .result) (c .write-copy .last .records) (ok (need.at·returns c .In-rest)) (c .read-below-r .ensures) (c .windowed .ensures) (c .write-copy .ensures);
+  leaves = slice-grown (store (c .args .records .now) (c .args .bytes .now) (c .args .marks .now)) (c .args .place) (c .args .first) (c .args .rows) (c .read-below-r .result) (c .windowed .result) (c .write-copy .last .records) (ok (need.at·returns c .In-rest)) (c .read-below-r .ensures) (c .windowed .ensures) (c .write-copy .ensures);
 }

@@ -4,5 +4,4 @@ use Rattle.store.proofs.calls.slice.Needs as need
 
 pub returns : need.returns
 returns c =
-    let p = slice-promise (store (c .args .records .now) (c .args .bytes .now) (c .args .marks .now)) (store (c .make-slice .last .records) (c .args .bytes .now) (c .make-slice .last .marks)) (c .make-slice .result) (c .args .place) (c .args .first) (c .args .rows) (c .make-slice .ensures .answer) (c .make-slice .ensures .after) in
-    record { answer = c .make-slice .ensures .answer; after = c .make-slice .ensures .after; rows = p .0; stays = p .1 }
+    slice-promise (store (c .args .records .now) (c .args .bytes .now) (c .args .marks .now)) (store (c .make-slice .last .records) (c .args .bytes .now) (c .make-slice .last .marks)) (c .make-slice .result) (c .args .place) (c .args .first) (c .args .rows) (c .make-slice .ensures)
