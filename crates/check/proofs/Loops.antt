@@ -7,10 +7,11 @@ use native.Mathlib.Omega.{arith}
 use lib.Dec.{leb}
 use Rattle.std.specs.Iters.{counting}
 use Rattle.std.specs.declared.option.Option.the-variants.{Some, None}
-use Rattle.std.proofs.shelf.Tests.{lt-ltb, le-ltb, leb-true, false≢true}
+use Rattle.std.proofs.shelf.Tests.{lt-ltb, le-ltb, leb-true}
 use Rattle.records.specs.declared.Record.{Record}
 use Rattle.format.specs.Trees.{recAt}
 use Rattle.format.specs.Rules.{both, every, firstNot}
+use Rattle.format.proofs.Tests.{sub-true}
 use Rattle.check.specs.Tests.{walk}
 
 counted : (j n : ℕ) → 0 < n → counting j n ≡ j ∷ counting (j + 1) (n - 1)
@@ -64,12 +65,6 @@ pub record Walks (f : Record → Bool) (rs : List Record) (k e : ℕ) (want : Bo
   pub enough : e - k ≤ turns
   pub leads : walk turns f rs k e ≡ want
 
-three : (a b c : Bool) → both a (both b c) ≡ true → (a ≡ true) × (b ≡ true) × (c ≡ true)
-three true true true h = (refl, refl, refl)
-three true true false h = absurd (false≢true h)
-three true false c h = absurd (false≢true h)
-three false b c h = absurd (false≢true h)
-
 abbrev test : (Record → Bool) → List Record → ℕ → ℕ → Bool
 test f rs k e = both (leb 1 (recAt rs k .span)) (both (leb (k + recAt rs k .span) e) (f (recAt rs k)))
 
@@ -90,7 +85,10 @@ pub walk-more : (f : Record → Bool) (rs : List Record) (k e : ℕ) (want : Boo
 walk-more f rs k e want w lt t = go (w .turns) (w .enough) (w .leads)
   where
     parts : (leb 1 (recAt rs k .span) ≡ true) × (leb (k + recAt rs k .span) e ≡ true) × (f (recAt rs k) ≡ true)
-    parts = three (leb 1 (recAt rs k .span)) (leb (k + recAt rs k .span) e) (f (recAt rs k)) t
+    parts =
+        let a = sub-true (leb 1 (recAt rs k .span)) (both (leb (k + recAt rs k .span) e) (f (recAt rs k))) t in
+        let b = sub-true (leb (k + recAt rs k .span) e) (f (recAt rs k)) (a .1) in
+        (a .0, b .0, b .1)
 
     go : (n : ℕ) → e - k ≤ n → walk n f rs k e ≡ want → Walks f rs (k + recAt rs k .span) e want
     go zero h q = absurd (omega arith)

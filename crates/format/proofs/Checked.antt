@@ -156,7 +156,7 @@ abbrev pub Rootless : List Record → Type 0
 Rootless rs = (i : ℕ) → 1 ≤ i → i < length rs → getD rs i nothing .root ≡ 0
 
 module _ (bs : List ℕ) (rs : List Record) where
-  head-at : (p : ℕ) (r : Record) (xs : List Record) → drop p rs ≡ r ∷ xs → recAt rs p ≡ r
+  pub head-at : (p : ℕ) (r : Record) (xs : List Record) → drop p rs ≡ r ∷ xs → recAt rs p ≡ r
   head-at p r xs e =
       let z : p + 0 ≡ p = omega arith in
       ap (λ k. getD rs k nothing) (sym z) ∙ sym (getD-drop p rs 0 nothing) ∙ ap (λ x. getD x 0 nothing) e

@@ -14,7 +14,7 @@ use Rattle.records.specs.declared.Record.{Record}
 use Rattle.numbers.specs.Little.{little, numberAt}
 use Rattle.numbers.specs.Bits.{bitAt, bitBytes}
 use Rattle.format.specs.Rows.{Row, null, raw, bit, listed, struct, rows, first}
-use Rattle.format.specs.Trees.{Forest, end, node, preorder, tops, nothing, recAt}
+use Rattle.format.specs.Trees.{Forest, end, node, preorder, tops, recAt}
 use Rattle.format.specs.Meaning.{Kind, flat, bits, bytes, dictionary, list, structs, runs, other, kindOf, isNull, number, endsOf, runOf, valueAt, decode}
 use Rattle.format.specs.Rules.{endOf, WellFormed}
 use Rattle.std.proofs.shelf.Tests.{eqb-true, eq-eqb, ne-eqb}
@@ -26,7 +26,7 @@ use Rattle.format.specs.Types.{recordsAt}
 use Rattle.format.specs.Promises.{SameRows, Stretch}
 use Rattle.format.proofs.Tests.{no-way, map-counting-same}
 use Rattle.format.proofs.Facts.{Is, kind-is, run-below, Says, facts, validity}
-use Rattle.format.proofs.Checked.{Kept, kept-spanned, checked, tree-well, rootless-at, rootless-like, is-root, few-records, column-is, column-tree}
+use Rattle.format.proofs.Checked.{head-at, Kept, kept-spanned, checked, tree-well, rootless-at, rootless-like, is-root, few-records, column-is, column-tree}
 use Rattle.format.proofs.Carry.{in-room, placed, Carries, SameKids, same-kids, carry}
 
 -- N holds M from byte d on
@@ -187,11 +187,6 @@ same-roots : (d : ℕ) (xs : List Record) → map (λ x. x .root) (map (moved d)
 same-roots d [] = refl
 same-roots d (x ∷ xs) = ap (λ t. x .root ∷ t) (same-roots d xs)
 
-head-of : (S : List Record) (p : ℕ) (x : Record) (xs : List Record) → drop p S ≡ x ∷ xs → recAt S p ≡ x
-head-of S p x xs e =
-    let z : p + 0 ≡ p = omega arith in
-    ap (λ k. getD S k nothing) (sym z) ∙ sym (getD-drop p S 0 nothing) ∙ ap (λ y. getD y 0 nothing) e
-
 -- a column of M whose records stand elsewhere, d bytes further on, over a memory N that holds M from byte d on
 pub copied : (d : ℕ) (M N : List ℕ) → Holds d M N → (R S : List Record) (q p : ℕ) (rest : List Record) → WellFormed M R q → p ≤ length S
     → drop p S ≡ map (moved d) (recordsAt R q) ++ rest → SameRows M R q N S p
@@ -205,7 +200,7 @@ copied d M N h R S q p rest w inside here =
     let kept = kept-held d M N h F (c .kept) in
     let roots : map (λ x. x .root) (preorder G) ≡ map (λ x. x .root) (recordsAt R q) = ap (map (λ x. x .root)) (sym new) ∙ same-roots d (recordsAt R q) in
     let tree = column-tree S p (moved d r) (movedTrees d (c .kids)) rest (kept-spanned N G kept) there in
-    let top : recAt S p ≡ moved d r = head-of S p (moved d r) _ there in
+    let top : recAt S p ≡ moved d r = head-at N S p (moved d r) _ there in
     record {
       well = tree-well N S p (moved d r) (movedTrees d (c .kids)) rest inside kept there (is-root R M q w) (few-records R M q w)
           (rootless-like (preorder G) (recordsAt R q) roots (rootless-at R M q w));
@@ -324,7 +319,7 @@ cut-out B R q f n w l =
     record {
       well = tree-well B (R ++ sliced R q f n) (length R) (window r f n) (c .kids) [] (rw length-append (omega arith)) kept there (is-root R B q w) (few-records R B q w)
           (rootless-like (preorder G) (recordsAt R q) roots (rootless-at R B q w));
-      count = ap (λ x. x .length) (head-of (R ++ sliced R q f n) (length R) (window r f n) _ there);
+      count = ap (λ x. x .length) (head-at B (R ++ sliced R q f n) (length R) (window r f n) _ there);
       rows = λ i m.
           ap (λ X. first (decode B X i)) tree ∙ cut-row B r (c .kids) f n i ∙ sym (ap (λ X. first (decode B X (f + i))) (column-is R B q w));
     }

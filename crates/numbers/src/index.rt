@@ -42,6 +42,7 @@ pub trait Index {
         ensures { λ r. ⌜ r ≡ reading minus wide (part (now (bytes .entry)) at wide) ⌝ };
 }
 
+// The largest number by sign and width. It is public for the crates above, which meet what it requires.
 pub fn largest_of(signed: bool, width: usize) -> u64
     requires { ⌜ 1 ≤ width ⌝ ∗ ⌜ width ≤ 8 ⌝ }
     ensures { λ r. ⌜ r ≡ largest signed width ⌝ }

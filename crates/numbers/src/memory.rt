@@ -5,6 +5,8 @@ ghost use Rattle.numbers.specs.Little.{little, bytesOf};
 ghost use Rattle.numbers.specs.Bits.{bitAt};
 ghost use Rattle.numbers.specs.Puts.{put, part, nextPlace};
 
+// These functions are public for the crates above, which meet what they require; no user calls them.
+
 // The number in `width` bytes from `at` on, the lowest first.
 pub fn read_little(bytes: &[u8], at: usize, width: usize) -> u64
     requires { ⌜ width ≤ 8 ⌝ ∗ ⌜ at + width ≤ length (now bytes) ⌝ }
