@@ -1,5 +1,6 @@
 // Cases of the format and of the calls, each with the answer that the rules give. A case that is answered otherwise ends the run with
 // an error that names it.
+#![tactic(auto)]
 
 mod calls;
 mod case;

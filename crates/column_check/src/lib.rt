@@ -1,4 +1,6 @@
 // The check of a column in memory.
+#![tactic(auto)]
+
 mod column;
 mod rules;
 

@@ -1,4 +1,6 @@
 // Columns in memory that the check has passed: their values, single cells, and stretches of them.
+#![tactic(auto)]
+
 mod cells;
 mod stretch;
 

@@ -1,4 +1,6 @@
 // The merge of dictionaries: dictionary.rs of the crate that this is a port of, over tables that the caller lends.
+#![tactic(auto)]
+
 mod cases;
 mod interner;
 mod mask;

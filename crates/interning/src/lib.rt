@@ -1,5 +1,7 @@
 // Interning and the merge of dictionaries, as definitions (specs/) and theorems about them (proofs/). Each function here is proved to
 // have the theorem that its contract names.
+#![tactic(auto)]
+
 ghost use Rattle.interning.specs.Promises.{Equality, InterningRight, MergingRight, MeaningDecides, AllBucketsRight};
 
 // Equality of bytes is a sameness.

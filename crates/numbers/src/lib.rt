@@ -1,4 +1,6 @@
 // Numbers, bitmaps and writes of one memory. The functions are public for the crates above, which meet their `requires`.
+#![tactic(auto)]
+
 mod index;
 mod memory;
 mod same;

@@ -21,6 +21,7 @@
 //!
 //! A row is written as `null`, as `x` and hex digits, as `0` or `1` for a bit, as
 //! `[v v ..]` for a list and as `{v v ..}` for a struct.
+#![tactic(auto)]
 
 mod column;
 mod dump;

@@ -1,4 +1,6 @@
 // The store: record memory and byte memory that the caller lends, two marks, and the calls on them. No call allocates.
+#![tactic(auto)]
+
 mod calls;
 mod cases;
 mod fault;

@@ -1,4 +1,6 @@
 // What the benchmark in bench/ links: the hash of one name, and the merge of one dictionary column under FNV-1a.
+#![tactic(auto)]
+
 use dictionary::{Stretch, merge_pieces};
 use hashes::{Fnv1a, Hash};
 use records::{Record, Slot};

@@ -1,5 +1,6 @@
 //! Runs a script of store calls, and prints what each call answered.
 //! The script comes from the file that the first argument names, or from standard input.
+#![tactic(auto)]
 
 mod failure;
 mod memory;

@@ -1,5 +1,6 @@
 //! Tries the hashes on strings whose numbers are known: FNV-1a on the vectors of a file, `Lead` on a table worked out by
 //! hand. A number other than the known one ends the run with an error, after all are tried.
+#![tactic(auto)]
 
 mod failure;
 mod leads;
