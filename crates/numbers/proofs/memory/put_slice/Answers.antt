@@ -4,7 +4,7 @@ use Rattle.numbers.proofs.memory.put_slice.Goals as goal
 
 pub returns : goal.returns
 returns c =
-    let after = c.copy-from-slice.ensures.after in
+    let after = c.copy_from_slice.ensures.after in
     let same = ap length after in
-    let e = mid_put c.args.at (c.args.at + length c.args.source.now - c.args.at) c.args.bytes.now c.copy-from-slice.new.self (omega arith) in
+    let e = mid_put c.args.at (c.args.at + length c.args.source.now - c.args.at) c.args.bytes.now c.copy_from_slice.new.self (omega arith) in
     cc

@@ -3,11 +3,11 @@ use Rattle.numbers.specs.Little.{little}
 use Rattle.numbers.proofs.Numbers.{fits_next, below_top, front_step}
 use Rattle.numbers.proofs.memory.read_each.Goals as goal
 
-pub overflow-mul-n : goal.overflow-mul-n
-overflow-mul-n c = omega (arith, below_top (c.args.width - c.loop-i.i) c.loop-i.n 0 (omega arith) c.loop-i.invariant.1)
+pub overflow_mul-n : goal.overflow_mul-n
+overflow_mul-n c = omega (arith, below_top (c.args.width - c.loop-i.i) c.loop-i.n 0 (omega arith) c.loop-i.invariant.1)
 
-pub overflow-add-n : goal.overflow-add-n
-overflow-add-n c = omega (arith, below_top (c.args.width - c.loop-i.i) c.loop-i.n c.from.result (omega arith) c.loop-i.invariant.1)
+pub overflow_add-n : goal.overflow_add-n
+overflow_add-n c = omega (arith, below_top (c.args.width - c.loop-i.i) c.loop-i.n c.from.result (omega arith) c.loop-i.invariant.1)
 
 pub loop-i-preserved : goal.loop-i-preserved
 loop-i-preserved c =

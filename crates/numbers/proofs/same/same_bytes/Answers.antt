@@ -11,7 +11,7 @@ pub returns-in-0-to-3 : goal.returns-in-0-to-3
 returns-in-0-to-3 c = decided c.args.x.now c.args.y.now c.eq.result (slice_eq-Decides Decides-eqb c.args.x.now c.args.y.now c.eq.result c.eq.ensures)
 
 pub returns-in-4-to-7 : goal.returns-in-4-to-7
-returns-in-4-to-7 c = decided c.args.x.now c.args.y.now c.same-halves.result c.same-halves.ensures
+returns-in-4-to-7 c = decided c.args.x.now c.args.y.now c.same_halves.result c.same_halves.ensures
 
-pub returns-in-default : goal.returns-in-default
-returns-in-default c = decided c.args.x.now c.args.y.now c.same-words.result c.same-words.ensures
+pub returns-in_default : goal.returns-in_default
+returns-in_default c = decided c.args.x.now c.args.y.now c.same_words.result c.same_words.ensures
