@@ -8,17 +8,17 @@ use Rattle.column_check.proofs.column.first_broken.Goals as goal
 pub bounds-records-place : goal.bounds-records-place
 bounds-records-place c =
     ltb-true c.args.place (length c.args.records.now)
-    (test (root_tests c.args.bytes.now c.args.records.now c.args.place) (sym c.root-ok.ensures ∙ c.if-root-ok.true) 0)
+    (test (root_tests c.args.bytes.now c.args.records.now c.args.place) (sym c.root_ok.ensures ∙ c.if-root_ok.true) 0)
 
-pub first-inner-requires : goal.first-inner-requires
-first-inner-requires c =
+pub first_inner-requires : goal.first_inner-requires
+first_inner-requires c =
     leb-true (c.args.place + (rec_at c.args.records.now c.args.place).span) (length c.args.records.now)
-    (test (root_tests c.args.bytes.now c.args.records.now c.args.place) (sym c.root-ok.ensures ∙ c.if-root-ok.true) 3)
+    (test (root_tests c.args.bytes.now c.args.records.now c.args.place) (sym c.root_ok.ensures ∙ c.if-root_ok.true) 3)
 
-pub returns-then-root-ok : goal.returns-then-root-ok
-returns-then-root-ok c =
-    c.first-inner.ensures ∙ first_then c.args.bytes.now c.args.records.now c.args.place (sym c.root-ok.ensures ∙ c.if-root-ok.true)
+pub returns-then-root_ok : goal.returns-then-root_ok
+returns-then-root_ok c =
+    c.first_inner.ensures ∙ first_then c.args.bytes.now c.args.records.now c.args.place (sym c.root_ok.ensures ∙ c.if-root_ok.true)
 
-pub returns-else-root-ok : goal.returns-else-root-ok
-returns-else-root-ok c =
-    first_else c.args.bytes.now c.args.records.now c.args.place (sym c.root-ok.ensures ∙ c.if-root-ok.false)
+pub returns-else-root_ok : goal.returns-else-root_ok
+returns-else-root_ok c =
+    first_else c.args.bytes.now c.args.records.now c.args.place (sym c.root_ok.ensures ∙ c.if-root_ok.false)

@@ -8,8 +8,8 @@ use Rattle.column_check.specs.Tests.{climbs}
 use Rattle.column_check.proofs.Loops.{turn, chain_more, chain_stop, some_of, none_of}
 use Rattle.column_check.proofs.rules.offsets_climb.Goals as goal
 
-pub number-from-requires : goal.number-from-requires
-number-from-requires g c =
+pub number_from-requires : goal.number_from-requires
+number_from-requires g c =
     record {
       wide = c.requires.wide;
       room = in_room c.args.r.a c.args.r.width (end_of c.args.r + 1) (c.args.r.start + c.loop-k.k) (length c.args.bytes.now) c.requires.room (omega arith);
@@ -19,7 +19,7 @@ pub loop-k-preserved : goal.loop-k-preserved
 loop-k-preserved g c =
     let f = number c.args.bytes.now c.args.r in
     let x = c.args.r.start + c.loop-k.k in
-    let t = some_of (both (not_negative g.I.Index.minus c.args.r.width (f x)) (leb c.loop-k.last (f x))) (f x) c.in-Some.next (sym c.number-from.ensures ∙ c.in-Some.is) in
+    let t = some_of (both (not_negative g.I.Index.minus c.args.r.width (f x)) (leb c.loop-k.last (f x))) (f x) c.in-Some.next (sym c.number_from.ensures ∙ c.in-Some.is) in
     ap (λ y. climbs g.I.Index.minus c.args.r.width c.args.most y (map f (range_with_len (c.args.r.start + (c.loop-k.k + 1)) (c.args.r.length + 1 - (c.loop-k.k + 1))))) (sym t.1)
     ∙ chain_more (λ a x. both (not_negative g.I.Index.minus c.args.r.width x) (leb a x)) (climbs g.I.Index.minus c.args.r.width c.args.most) (λ a x xs. refl) f c.loop-k.last (c.args.r.start + c.loop-k.k) (c.args.r.start + (c.loop-k.k + 1)) (c.args.r.length + 1 - c.loop-k.k) (c.args.r.length + 1 - (c.loop-k.k + 1)) (turn c.args.r.start c.loop-k.k (c.args.r.length + 1) (omega arith)) t.0
     ∙ c.loop-k.invariant
@@ -28,6 +28,6 @@ pub returns-in-None : goal.returns-in-None
 returns-in-None g c =
     let f = number c.args.bytes.now c.args.r in
     let x = c.args.r.start + c.loop-k.k in
-    let t = none_of (both (not_negative g.I.Index.minus c.args.r.width (f x)) (leb c.loop-k.last (f x))) (f x) (sym c.number-from.ensures ∙ c.in-None.is) in
+    let t = none_of (both (not_negative g.I.Index.minus c.args.r.width (f x)) (leb c.loop-k.last (f x))) (f x) (sym c.number_from.ensures ∙ c.in-None.is) in
     sym (sym c.loop-k.invariant
     ∙ chain_stop (λ a x. both (not_negative g.I.Index.minus c.args.r.width x) (leb a x)) (climbs g.I.Index.minus c.args.r.width c.args.most) (λ a x xs. refl) f c.loop-k.last (c.args.r.start + c.loop-k.k) (c.args.r.start + (c.loop-k.k + 1)) (c.args.r.length + 1 - c.loop-k.k) (c.args.r.length + 1 - (c.loop-k.k + 1)) (turn c.args.r.start c.loop-k.k (c.args.r.length + 1) (omega arith)) t)

@@ -11,8 +11,8 @@ loop-p-init c =
     let k = right c.args.bytes.now c.args.records.now c.args.q c.requires.well in
     (refl, c.requires.low, omega (arith, k.head.some))
 
-pub look-at-row-requires : goal.look-at-row-requires
-look-at-row-requires c =
+pub look_at_row-requires : goal.look_at_row-requires
+look_at_row-requires c =
     let t = ruled_in c.args.bytes.now c.args.records.now c.args.q c.loop-p.p c.requires.well c.loop-p.auto.p c.loop-p.invariant.2 in
     readable c.args.bytes.now (rec_at c.args.records.now c.loop-p.p) (children_at c.args.records.now c.loop-p.p) t.0 c.loop-p.i c.loop-p.invariant.1
 
