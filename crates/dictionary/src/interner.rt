@@ -12,8 +12,8 @@ use records::Slot;
 
 // The number of a value: an absent one is hashed as the empty string.
 fn hash_value<H: Hash>(hash: &mut H, value: Option<&[u8]>) -> u64
-    ensures value { result ≡ meaning hash.old (hashed_as (seen value.entry)) }
-    ensures same { meaning hash.new ≡ meaning hash.old }
+    ensures value { result ≡ H.meaning hash.old (hashed_as (seen value.entry)) }
+    ensures same { H.meaning hash.new ≡ H.meaning hash.old }
 {
     match value {
         Some(bytes) => hash.hash(bytes),
@@ -87,9 +87,9 @@ impl<'t> Interner<'t> {
     // The bucket of a value.
     fn bucket<H: Hash>(&self, hash: &mut H, value: Option<&[u8]>) -> usize
         requires { self.now.shift < 64 }
-        ensures value { result ≡ meaning hash.old (hashed_as (seen value.entry)) / 2 ^ self.now.shift }
-        ensures low { meaning hash.old (hashed_as (seen value.entry)) < 2 ^ 64 }
-        ensures same { meaning hash.new ≡ meaning hash.old }
+        ensures value { result ≡ H.meaning hash.old (hashed_as (seen value.entry)) / 2 ^ self.now.shift }
+        ensures low { H.meaning hash.old (hashed_as (seen value.entry)) < 2 ^ 64 }
+        ensures same { H.meaning hash.new ≡ H.meaning hash.old }
     {
         (hash_value(hash, value) >> self.shift) as usize
     }
@@ -103,14 +103,14 @@ impl<'t> Interner<'t> {
     ) -> (u64, bool)
         requires ok { PiecesOk from.now }
         requires slot { HasSlot from.now slot }
-        requires stands { Stands (meaning hash.old) from.now self.old }
+        requires stands { Stands (H.meaning hash.old) from.now self.old }
         requires room { self.old.entries < length self.old.chosen.now }
-        ensures answer { Interns (meaning hash.old) (taken from.now) (so_far self.old) slot result.0 result.1 (so_far self.new) }
-        ensures stands { Stands (meaning hash.old) from.now self.new }
+        ensures answer { Interns (H.meaning hash.old) (taken from.now) (so_far self.old) slot result.0 result.1 (so_far self.new) }
+        ensures stands { Stands (H.meaning hash.old) from.now self.new }
         ensures low { result.0 ≤ self.old.entries }
         ensures room { length self.new.chosen.now ≡ length self.old.chosen.now }
         ensures lent { SameTables self.old self.new }
-        ensures same { meaning hash.new ≡ meaning hash.old }
+        ensures same { H.meaning hash.new ≡ H.meaning hash.old }
     {
         let value = from.value(slot);
         let b = self.bucket(hash, value);
@@ -128,15 +128,15 @@ impl<'t> Interner<'t> {
     fn key<H: Hash>(&mut self, hash: &mut H, from: &Dictionaries<'_>, slot: Slot, used: u64) -> u64
         requires ok { PiecesOk from.now }
         requires slot { HasSlot from.now slot }
-        requires stands { Stands (meaning hash.old) from.now self.old }
+        requires stands { Stands (H.meaning hash.old) from.now self.old }
         requires mark { used ≡ mark_of (taken from.now) slot }
         requires room { self.old.entries + used ≤ length self.old.chosen.now }
-        ensures key { result ≡ in_table (key_here same_value (meaning hash.old) (taken from.now) slot (so_far self.old)) }
-        ensures entries { so_far self.new ≡ stepped same_value (meaning hash.old) (taken from.now) slot (so_far self.old) }
-        ensures stands { Stands (meaning hash.old) from.now self.new }
+        ensures key { result ≡ in_table (key_here same_value (H.meaning hash.old) (taken from.now) slot (so_far self.old)) }
+        ensures entries { so_far self.new ≡ stepped same_value (H.meaning hash.old) (taken from.now) slot (so_far self.old) }
+        ensures stands { Stands (H.meaning hash.old) from.now self.new }
         ensures room { length self.new.chosen.now ≡ length self.old.chosen.now }
         ensures lent { SameTables self.old self.new }
-        ensures same { meaning hash.new ≡ meaning hash.old }
+        ensures same { H.meaning hash.new ≡ H.meaning hash.old }
     {
         if used == 0 {
             return 0;
@@ -157,14 +157,14 @@ impl<'t> Interner<'t> {
         requires input { input < length from.now.pieces.now }
         requires long { length keys.old ≡ (get_or from.now.pieces.now input no_piece).entries.length }
         requires marks { keys.old ≡ map (mark_of (taken from.now)) (slots_in input (length keys.old)) }
-        requires stands { Stands (meaning hash.old) from.now self.old }
+        requires stands { Stands (H.meaning hash.old) from.now self.old }
         requires room { self.old.entries + length (filter (is_used (taken from.now)) (slots_in input (length keys.old))) ≤ length self.old.chosen.now }
-        ensures keys { keys.new ≡ map in_table (keys_from same_value (meaning hash.old) (taken from.now) (slots_in input (length keys.old)) (so_far self.old)) }
-        ensures entries { so_far self.new ≡ walked same_value (meaning hash.old) (taken from.now) (slots_in input (length keys.old)) (so_far self.old) }
-        ensures stands { Stands (meaning hash.old) from.now self.new }
+        ensures keys { keys.new ≡ map in_table (keys_from same_value (H.meaning hash.old) (taken from.now) (slots_in input (length keys.old)) (so_far self.old)) }
+        ensures entries { so_far self.new ≡ walked same_value (H.meaning hash.old) (taken from.now) (slots_in input (length keys.old)) (so_far self.old) }
+        ensures stands { Stands (H.meaning hash.old) from.now self.new }
         ensures room { length self.new.chosen.now ≡ length self.old.chosen.now }
         ensures lent { SameTables self.old self.new }
-        ensures same { meaning hash.new ≡ meaning hash.old }
+        ensures same { H.meaning hash.new ≡ H.meaning hash.old }
     {
         for j in 0..keys.len() {
             let entry = j as u64;
@@ -176,13 +176,13 @@ impl<'t> Interner<'t> {
     fn intern_all<H: Hash>(&mut self, hash: &mut H, from: &Dictionaries<'_>, keys: &mut [u64])
         requires ok { PiecesOk from.now }
         requires marks { keys.old ≡ map (mark_of (taken from.now)) (slots_of (taken from.now)) }
-        requires stands { Stands (meaning hash.old) from.now self.old }
+        requires stands { Stands (H.meaning hash.old) from.now self.old }
         requires room { self.old.entries + length (used_slots (taken from.now)) ≤ length self.old.chosen.now }
-        ensures keys { keys.new ≡ map in_table (keys_from same_value (meaning hash.old) (taken from.now) (slots_of (taken from.now)) (so_far self.old)) }
-        ensures entries { so_far self.new ≡ walked same_value (meaning hash.old) (taken from.now) (slots_of (taken from.now)) (so_far self.old) }
+        ensures keys { keys.new ≡ map in_table (keys_from same_value (H.meaning hash.old) (taken from.now) (slots_of (taken from.now)) (so_far self.old)) }
+        ensures entries { so_far self.new ≡ walked same_value (H.meaning hash.old) (taken from.now) (slots_of (taken from.now)) (so_far self.old) }
         ensures fits { self.new.entries ≤ length self.new.chosen.now }
         ensures lent { SameTables self.old self.new }
-        ensures same { meaning hash.new ≡ meaning hash.old }
+        ensures same { H.meaning hash.new ≡ H.meaning hash.old }
     {
         let mut at = 0;
         for i in 0..from.pieces.len() {
@@ -209,10 +209,10 @@ pub(super) fn intern_slots<H: Hash>(
     requires low { shift < 64 }
     requires wide { count_of_buckets (taken from.now) ≤ length buckets.old }
     requires room { length (used_slots (taken from.now)) ≤ length chosen.old }
-    ensures entries { result ≡ length (chosen_slots same_value (meaning hash.old) (taken from.now)) }
-    ensures keys { keys.new ≡ map in_table (slot_keys same_value (meaning hash.old) (taken from.now)) }
-    ensures chosen { take result chosen.new ≡ chosen_slots same_value (meaning hash.old) (taken from.now) }
-    ensures same { meaning hash.new ≡ meaning hash.old }
+    ensures entries { result ≡ length (chosen_slots same_value (H.meaning hash.old) (taken from.now)) }
+    ensures keys { keys.new ≡ map in_table (slot_keys same_value (H.meaning hash.old) (taken from.now)) }
+    ensures chosen { take result chosen.new ≡ chosen_slots same_value (H.meaning hash.old) (taken from.now) }
+    ensures same { H.meaning hash.new ≡ H.meaning hash.old }
 {
     clear(buckets);
     let mut interner = Interner {

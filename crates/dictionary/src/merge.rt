@@ -65,8 +65,8 @@ pub fn merge_dictionary_values<H: Hash>(
 ) -> Result<u64, MergeFault>
     requires ok { PiecesOk from.now }
     requires few { length from.now.pieces.now ≤ 64 }
-    ensures merges { MergeContract result (meaning hash.old) (most_key from.now.pieces.now) (taken from.now) (length buckets.old) keys.new chosen.new }
-    ensures same { meaning hash.new ≡ meaning hash.old }
+    ensures merges { MergeContract result (H.meaning hash.old) (most_key from.now.pieces.now) (taken from.now) (length buckets.old) keys.new chosen.new }
+    ensures same { H.meaning hash.new ≡ H.meaning hash.old }
 {
     let total = total_slots(from) as usize;
     if keys.len() < total {

@@ -63,8 +63,8 @@ pub fn merge_pieces<H: Hash>(
     buckets: &mut [u64],
     chosen: &mut [Slot],
 ) -> Result<u64, PiecesFault>
-    ensures merges { MergesPieces (pieces_of bytes.now records.now inputs.now) result (meaning hash.old) bytes.now (length buckets.old) keys.new chosen.new }
-    ensures same { meaning hash.new ≡ meaning hash.old }
+    ensures merges { MergesPieces (pieces_of bytes.now records.now inputs.now) result (H.meaning hash.old) bytes.now (length buckets.old) keys.new chosen.new }
+    ensures same { H.meaning hash.new ≡ H.meaning hash.old }
 {
     if is_crowd(inputs.len()) {
         return Err(PiecesFault::Crowd);

@@ -9,32 +9,32 @@ use Rattle.dictionary.proofs.mask.mask_slots.Goals as goal
 pub loop-i-init : goal.loop-i-init
 loop-i-init c = search rules
 
-pub overflow-add-at : goal.overflow-add-at
-overflow-add-at c =
+pub overflow_add-at : goal.overflow_add-at
+overflow_add-at c =
     let w = mask_within c.args.from.now.bytes.now c.args.from.now.pieces.now c.loop-i.i c.loop-i.at c.loop-i.keys c.loop-i-test.true c.loop-i.invariant.0 c.loop-i.invariant.1 in
     search rules
 
-pub slice-bounds-compute-values-mask-end : goal.slice-bounds-compute-values-mask-end
-slice-bounds-compute-values-mask-end c =
+pub slice_bounds-compute_values_mask-end : goal.slice_bounds-compute_values_mask-end
+slice_bounds-compute_values_mask-end c =
     let w = mask_within c.args.from.now.bytes.now c.args.from.now.pieces.now c.loop-i.i c.loop-i.at c.loop-i.keys c.loop-i-test.true c.loop-i.invariant.0 c.loop-i.invariant.1 in
     search rules
 
-pub compute-values-mask-requires : goal.compute-values-mask-requires
-compute-values-mask-requires c =
+pub compute_values_mask-requires : goal.compute_values_mask-requires
+compute_values_mask-requires c =
     record {
       ok = piece_at c.args.from.now.bytes.now c.args.from.now.pieces.now c.loop-i.i c.requires.ok c.loop-i-test.true;
       long = mask_long c.args.from.now.bytes.now c.args.from.now.pieces.now c.loop-i.i c.loop-i.at c.loop-i.keys c.loop-i-test.true c.loop-i.invariant.0 c.loop-i.invariant.1;
     }
 
-pub overflow-add-at-in-loop-i : goal.overflow-add-at-in-loop-i
-overflow-add-at-in-loop-i c =
+pub overflow_add-at-in-loop-i : goal.overflow_add-at-in-loop-i
+overflow_add-at-in-loop-i c =
     let w = mask_within c.args.from.now.bytes.now c.args.from.now.pieces.now c.loop-i.i c.loop-i.at c.loop-i.keys c.loop-i-test.true c.loop-i.invariant.0 c.loop-i.invariant.1 in
     search rules
 
 pub loop-i-preserved : goal.loop-i-preserved
 loop-i-preserved c =
     mask_more c.args.from.now.bytes.now c.args.from.now.pieces.now c.loop-i.i c.loop-i.at c.loop-i.keys c.loop-i-test.true c.loop-i.invariant.0 c.loop-i.invariant.1
-    c.compute-values-mask.new.mask c.compute-values-mask.ensures
+    c.compute_values_mask.new.mask c.compute_values_mask.ensures
 
 pub returns : goal.returns
 returns c =

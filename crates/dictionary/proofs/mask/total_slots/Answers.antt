@@ -2,8 +2,8 @@ use Rattle.std.proofs.Common.{◌≡◌, ◌+◌, ◌*◌, ◌^◌, ◌<◌, ◌
 use Rattle.dictionary.proofs.Slots.{slots_turn_length, slots_none_length, entries_low}
 use Rattle.dictionary.proofs.mask.total_slots.Goals as goal
 
-pub overflow-add-total : goal.overflow-add-total
-overflow-add-total c =
+pub overflow_add-total : goal.overflow_add-total
+overflow_add-total c =
     let n = entries_low c.args.from.now.bytes.now c.args.from.now.pieces.now c.loop-i.i c.requires.ok c.loop-i-test.true in
     let t = c.loop-i.invariant.1 in
     let f = c.requires.few in

@@ -9,10 +9,10 @@ pub returns : goal.returns
 returns c =
     let rs = c.args.records.now in
     let q = c.args.place in
-    let l = ltb-false (rec_at rs q).length (c.args.first + c.args.rows) (sym c.if-is-outside.ensures) in
+    let l = ltb-false (rec_at rs q).length (c.args.first + c.args.rows) (sym c.if-is_outside.ensures) in
     let t : both (eqb (rec_at rs q).kind 4) (one_of (rec_at rs (q + 1)).kind (1 ∷ 3 ∷ [])) ≡ true =
-    ap (λ e. both (eqb (rec_at rs q).kind 4) (one_of e.kind (1 ∷ 3 ∷ []))) (sym c.next-record-entries.ensures) ∙ sym c.if-not-is-leafed.ensures in
+    ap (λ e. both (eqb (rec_at rs q).kind 4) (one_of e.kind (1 ∷ 3 ∷ []))) (sym c.next_record-entries.ensures) ∙ sym c.if-not-is_leafed.ensures in
     record {
       answer = search rules;
-      ok = rw (c.windowed.ensures, c.next-record-entries.ensures) (piece_ok c.args.bytes.now rs q c.args.first c.args.rows (sym c.in-default.ensures) l t);
+      ok = rw (c.windowed.ensures, c.next_record-entries.ensures) (piece_ok c.args.bytes.now rs q c.args.first c.args.rows (sym c.in_default.ensures) l t);
     }

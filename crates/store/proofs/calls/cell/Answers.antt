@@ -4,4 +4,4 @@ use Rattle.store.proofs.calls.cell.Goals as goal
 
 pub returns : goal.returns
 returns c =
-    cell_promise (store c.args.records.now c.args.bytes.now c.args.marks.now) c.read-cell.result c.args.place c.args.row c.read-cell.ensures
+    cell_promise (store c.args.records.now c.args.bytes.now c.args.marks.now) c.read_cell.result c.args.place c.args.row c.read_cell.ensures

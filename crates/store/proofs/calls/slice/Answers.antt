@@ -4,4 +4,4 @@ use Rattle.store.proofs.calls.slice.Goals as goal
 
 pub returns : goal.returns
 returns c =
-    slice_promise (store c.args.records.now c.args.bytes.now c.args.marks.now) (store c.make-slice.new.records c.args.bytes.now c.make-slice.new.marks) c.make-slice.result c.args.place c.args.first c.args.rows c.make-slice.ensures
+    slice_promise (store c.args.records.now c.args.bytes.now c.args.marks.now) (store c.make_slice.new.records c.args.bytes.now c.make_slice.new.marks) c.make_slice.result c.args.place c.args.first c.args.rows c.make_slice.ensures

@@ -7,8 +7,8 @@ use Rattle.format.specs.Moves.{moved}
 use Rattle.store.specs.Movable.{Movable}
 use Rattle.store.proofs.calls.write_moved.Goals as goal
 
-pub moved-by-requires : goal.moved-by-requires
-moved-by-requires c = All-get_or (Movable c.args.d) c.args.column.now c.loop-i.i nothing (omega arith) c.requires.movable
+pub moved_by-requires : goal.moved_by-requires
+moved_by-requires c = All-get_or (Movable c.args.d) c.args.column.now c.loop-i.i nothing (omega arith) c.requires.movable
 
 pub loop-i-init : goal.loop-i-init
 loop-i-init c = paste_none c.args.records.now c.args.at (map (moved c.args.d) c.args.column.now)

@@ -20,18 +20,18 @@ loop-i-init g c =
       refl,
     )
 
-pub overflow-add-at : goal.overflow-add-at
-overflow-add-at g c =
+pub overflow_add-at : goal.overflow_add-at
+overflow_add-at g c =
     let w = input_within _ (g.H.Hash.meaning c.loop-i.hash) c.loop-i.invariant.4 _ _ _ _ c.loop-i.i _ c.loop-i.at c.loop-i.keys c.loop-i.invariant.0 c.loop-i-test.true in
     search rules
 
-pub slice-bounds-intern-masked-values-end : goal.slice-bounds-intern-masked-values-end
-slice-bounds-intern-masked-values-end g c =
+pub slice_bounds-intern_masked_values-end : goal.slice_bounds-intern_masked_values-end
+slice_bounds-intern_masked_values-end g c =
     let w = input_within _ (g.H.Hash.meaning c.loop-i.hash) c.loop-i.invariant.4 _ _ _ _ c.loop-i.i _ c.loop-i.at c.loop-i.keys c.loop-i.invariant.0 c.loop-i-test.true in
     search rules
 
-pub intern-masked-values-requires : goal.intern-masked-values-requires
-intern-masked-values-requires g c =
+pub intern_masked_values-requires : goal.intern_masked_values-requires
+intern_masked_values-requires g c =
     let i = c.loop-i.self in
     let long = length-entries i.chosen.now i.entries in
     let r = input_room _ (g.H.Hash.meaning c.loop-i.hash) c.loop-i.invariant.4 c.args.from.now.bytes.now c.args.from.now.pieces.now _ _ c.loop-i.i (so_far c.loop-i.self) c.loop-i.at c.loop-i.keys c.loop-i.invariant.0 c.loop-i-test.true in
@@ -44,19 +44,19 @@ intern-masked-values-requires g c =
       room = rw (← long, c.loop-i.invariant.2) r;
     }
 
-pub overflow-add-at-in-loop-i : goal.overflow-add-at-in-loop-i
-overflow-add-at-in-loop-i g c =
+pub overflow_add-at-in-loop-i : goal.overflow_add-at-in-loop-i
+overflow_add-at-in-loop-i g c =
     let w = input_within _ (g.H.Hash.meaning c.loop-i.hash) c.loop-i.invariant.4 _ _ _ _ c.loop-i.i _ c.loop-i.at c.loop-i.keys c.loop-i.invariant.0 c.loop-i-test.true in
     search rules
 
 pub loop-i-preserved : goal.loop-i-preserved
 loop-i-preserved g c = (
-  input_more _ (g.H.Hash.meaning c.loop-i.hash) c.loop-i.invariant.4 c.args.from.now.bytes.now c.args.from.now.pieces.now _ _ c.loop-i.i (so_far c.loop-i.self) c.loop-i.at c.loop-i.keys c.loop-i.invariant.0 c.loop-i-test.true c.intern-masked-values.new.keys
-      (so_far c.intern-masked-values.new.self) c.intern-masked-values.ensures.keys c.intern-masked-values.ensures.entries,
-  stands_as _ _ _ _ _ _ _ _ c.loop-i.invariant.4 c.intern-masked-values.ensures.stands,
-  c.intern-masked-values.ensures.room ∙ c.loop-i.invariant.2,
-  (c.intern-masked-values.ensures.lent.0 ∙ c.loop-i.invariant.3.0, c.intern-masked-values.ensures.lent.1 ∙ c.loop-i.invariant.3.1),
-  c.intern-masked-values.ensures.same ∙ c.loop-i.invariant.4,
+  input_more _ (g.H.Hash.meaning c.loop-i.hash) c.loop-i.invariant.4 c.args.from.now.bytes.now c.args.from.now.pieces.now _ _ c.loop-i.i (so_far c.loop-i.self) c.loop-i.at c.loop-i.keys c.loop-i.invariant.0 c.loop-i-test.true c.intern_masked_values.new.keys
+      (so_far c.intern_masked_values.new.self) c.intern_masked_values.ensures.keys c.intern_masked_values.ensures.entries,
+  stands_as _ _ _ _ _ _ _ _ c.loop-i.invariant.4 c.intern_masked_values.ensures.stands,
+  c.intern_masked_values.ensures.room ∙ c.loop-i.invariant.2,
+  (c.intern_masked_values.ensures.lent.0 ∙ c.loop-i.invariant.3.0, c.intern_masked_values.ensures.lent.1 ∙ c.loop-i.invariant.3.1),
+  c.intern_masked_values.ensures.same ∙ c.loop-i.invariant.4,
 )
 
 pub returns : goal.returns
