@@ -36,7 +36,7 @@ fn tree_end(r: Record, at: usize, end: usize) -> usize
 }
 
 // The one row of the child of the record at `at` that has the number `row`.
-#[cycle(show_child_show_fields_show_list_show_row)]
+#[cycle(show)]
 fn show_child(
     out: &mut String,
     records: &[Record],
@@ -51,7 +51,7 @@ fn show_child(
     }
 }
 
-#[cycle(show_child_show_fields_show_list_show_row)]
+#[cycle(show)]
 fn show_list(
     out: &mut String,
     records: &[Record],
@@ -74,7 +74,7 @@ fn show_list(
 }
 
 // The rows j of the trees between a struct's record at `at` and its end.
-#[cycle(show_child_show_fields_show_list_show_row)]
+#[cycle(show)]
 fn show_fields(
     out: &mut String,
     records: &[Record],
@@ -105,7 +105,7 @@ fn span_at(records: &[Record], at: usize) -> usize {
 }
 
 // One row of the tree at `at`, whose records end at or below `end`.
-#[cycle(show_child_show_fields_show_list_show_row)]
+#[cycle(show)]
 fn show_row(
     out: &mut String,
     records: &[Record],
