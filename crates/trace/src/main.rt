@@ -8,6 +8,7 @@ mod session;
 
 use failure::Failure;
 use session::Session;
+use std::process::ExitCode;
 use std::{env, fs, io};
 
 // Answers are gathered up to this many bytes before they are written.
@@ -54,10 +55,12 @@ fn run(rt: &HostRuntime) -> Result<(), Failure> {
     replay(rt, text.as_str())
 }
 
-fn main(rt: HostRuntime) -> Result<(), Failure> {
-    let result = run(&rt);
-    if let Err(failure) = &result {
-        let _ = eprintln!(rt; "{failure}");
+fn main(rt: HostRuntime) -> ExitCode {
+    match run(&rt) {
+        Ok(()) => ExitCode::SUCCESS,
+        Err(failure) => {
+            let _ = eprintln!(rt; "{failure}");
+            ExitCode::FAILURE
+        }
     }
-    result
 }
