@@ -1,6 +1,6 @@
 -- The tests of the check and the rules of the format agree.
 use Rattle.std.proofs.Common.{◌≡◌, ℕ, zero, suc, ◌+◌, ◌-◌, ◌≤◌, Bool, true, false, cond, eqb, ltb, leb, List, [], ◌∷◌, map, length, get_or, Some, sym, refl, ap, ◌∙◌, subst, arith}
-use Rattle.std.specs.List.{range_with_len, AllByRecursion as All}
+use Rattle.std.specs.List.{range_with_len, AllByRecursion}
 use Rattle.std.proofs.lemmas.Bool.{leb-true, ltb-false, eqb-true, eq-eqb, lt-ltb, le-ltb, le-leb}
 use Rattle.records.specs.declared.Record.{Record}
 use Rattle.numbers.specs.Little.{not_negative}
@@ -18,7 +18,7 @@ test (t ∷ []) h (suc i) = refl
 test (t ∷ u ∷ ts) h zero = (sub_true t (in_turn (u ∷ ts)) h).0
 test (t ∷ u ∷ ts) h (suc i) = test (u ∷ ts) (sub_true t (in_turn (u ∷ ts)) h).1 i
 
-pub in_turn_lem : (ts : List Bool) → All (λ t. t ≡ true) ts → in_turn ts ≡ true
+pub in_turn_lem : (ts : List Bool) → AllByRecursion (λ t. t ≡ true) ts → in_turn ts ≡ true
 in_turn_lem [] h = refl
 in_turn_lem (t ∷ []) h = h.0
 in_turn_lem (t ∷ u ∷ ts) h = both_true t (in_turn (u ∷ ts)) h.0 (in_turn_lem (u ∷ ts) h.1)

@@ -1,6 +1,6 @@
 -- The way to a cell, record by record.
 use Rattle.std.proofs.Common.{◌≡◌, ℕ, zero, suc, ◌+◌, ◌-◌, ◌<◌, ◌≤◌, Bool, true, false, cond, eqb, ltb, leb, List, [], ◌∷◌, map, length, drop, sym, refl, ap, ◌∙◌, subst, arith}
-use Rattle.std.specs.List.{range_with_len, AllByRecursion as All}
+use Rattle.std.specs.List.{range_with_len, AllByRecursion}
 use Rattle.std.proofs.lemmas.Bool.{lt-leb, le-leb, leb-true, eqb-true}
 use Rattle.std.proofs.lemmas.List.{drop_more, drop_all}
 use Rattle.std.proofs.lemmas.List.FromFn.{length-map-range_with_len}
@@ -87,7 +87,7 @@ pub run_end : (f : ℕ → ℕ) (k n j : ℕ) → n ≤ k → run_of (map f (ran
 run_end f k n j h = let m : n - k ≡ 0 = omega arith in ap (λ x. run_of (map f (range_with_len k x)) j) m
 
 -- a read at a row of a record that keeps its rules
-width_low : (w : ℕ) (ws : List ℕ) → All (λ x. x ≤ 8) ws → one_of w ws ≡ true → w ≤ 8
+width_low : (w : ℕ) (ws : List ℕ) → AllByRecursion (λ x. x ≤ 8) ws → one_of w ws ≡ true → w ≤ 8
 width_low w [] a h = no_way h
 width_low w (x ∷ ws) a h = go (eqb w x) refl h (width_low w ws a.1)
   where

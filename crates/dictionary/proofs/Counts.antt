@@ -2,7 +2,7 @@
 use Rattle.std.proofs.Common.{◌≡◌, ℕ, zero, suc, ◌+◌, ◌-◌, ◌*◌, ◌/◌, ◌^◌, ◌<◌, ◌≤◌, Bool, true, false, cond, eqb, List, [], ◌∷◌, sym, refl, ap, ◌∙◌, subst, ap₂, lt_of_mul-lt-mul_right, arith, pow_pos, pow-add}
 use native.Mathlib.Decide.{dec_lt}
 use lib.Count.{count_leading_zeros, leading_unique}
-use Rattle.std.specs.List.{AllByRecursion as All}
+use Rattle.std.specs.List.{AllByRecursion}
 use Rattle.std.proofs.lemmas.Bool.{eqb-true}
 use Rattle.format.specs.Meaning.{kind_of, dictionary}
 use Rattle.format.specs.Rules.{all_of, one_of, record_rules, kind_rules}
@@ -43,7 +43,7 @@ shift_whole u l = go b.power.0 b.power.1 b.power.2
         below k up h = elim (dec_lt k 64) [ yes x ↦ x | no x ↦ (let e : k ≡ 64 = omega arith in let f : 2 ^ 64 / 2 ≤ u + 128 = subst (λ x. 2 ^ x / 2 ≤ u + 128) e h in absurd (omega arith)) ]
 
 -- the width of keys is that of a number
-one_of_lem : (P : ℕ → Type 0) (x : ℕ) (ys : List ℕ) → All P ys → one_of x ys ≡ true → P x
+one_of_lem : (P : ℕ → Type 0) (x : ℕ) (ys : List ℕ) → AllByRecursion P ys → one_of x ys ≡ true → P x
 one_of_lem P x [] a h = no_way h
 one_of_lem P x (y ∷ ys) a h = go (eqb x y) refl h (one_of_lem P x ys a.1)
   where

@@ -2,7 +2,7 @@
 use Rattle.std.proofs.Common.{◌≡◌, ℕ, zero, suc, ◌+◌, ◌*◌, ◌/◌, ◌^◌, ◌<◌, ◌≤◌, Bool, true, false, cond, eqb, ◌≢◌, List, [], ◌∷◌, ◌++◌, reverse, length, get_or, take, set, Some, None, Option, sym, refl, ap, ◌∙◌, subst, ap₂, mul_comm, div-lt_iff_lt-mul, add-one, arith, get_or-set_other, get_or-set_same, pow_pos}
 use mathlib.Core.List.{reverse-cons}
 use native.Mathlib.Nat.{mul-div_cancel_left}
-use Rattle.std.specs.List.{AllByRecursion as All}
+use Rattle.std.specs.List.{AllByRecursion}
 use Rattle.std.proofs.lemmas.List.{length-set, take_more, length-take-le}
 use Rattle.std.proofs.lemmas.Bool.{eqb-true, eqb-false, eq-eqb, ne_eqb}
 use Rattle.records.specs.declared.Slot.{Slot}
@@ -86,7 +86,7 @@ entries_more : (chosen : List Slot) (s : Slot) (n : ℕ) → n < length chosen �
 entries_more chosen s n l =
     rw add-one (ap₂ (λ x y. x ∷ y) (get_or-set_same chosen n s (slot 0 0) l) (entries_kept chosen s n n (omega arith)))
 
-all_entry : (P : Slot → Type 0) (chosen : List Slot) (n k : ℕ) → k < n → All P (entries_in chosen n) → P (get_or chosen k (slot 0 0))
+all_entry : (P : Slot → Type 0) (chosen : List Slot) (n k : ℕ) → k < n → AllByRecursion P (entries_in chosen n) → P (get_or chosen k (slot 0 0))
 all_entry P chosen zero k l h = absurd (omega arith)
 all_entry P chosen (suc n) k l h = go (eqb k n) refl (λ m. all_entry P chosen n k m h.1)
   where

@@ -2,7 +2,7 @@
 use Rattle.std.proofs.Common.{◌≡◌, ℕ, zero, suc, ◌+◌, ◌*◌, ◌^◌, ◌<◌, ◌≤◌, Bool, true, false, cond, not, eqb, ltb, leb, ◌⊎◌, List, [], ◌∷◌, ◌++◌, map, length, get_or, take, drop, Ok, Err, filter, sym, refl, ap, ◌∙◌, subst, inl, inr, arith, pow_pos}
 use native.Mathlib.Nat.{eq_of_mul-eq-mul_right}
 use lib.Count.{count_leading_zeros}
-use Rattle.std.specs.List.{AllByRecursion as All}
+use Rattle.std.specs.List.{AllByRecursion}
 use Rattle.std.proofs.lemmas.Bool.{lt-ltb, le-ltb}
 use Rattle.std.proofs.lemmas.List.{length-append, length-drop, length-take-le, take_at, drop_more, drop_all}
 use Rattle.std.proofs.lemmas.List.Filters.{length-filter_both}
@@ -89,7 +89,7 @@ module _ (f : Piece → Bool) (ps : List Piece) (i : ℕ) where
   every_end l = ap (every f) (drop_all i ps l)
 
 -- where entries are flat or bytes, the rest of the rule decides
-module _ (bs : List ℕ) (ps : List Piece) (ok : All (PieceOk bs) ps) (some : 0 < length ps) where
+module _ (bs : List ℕ) (ps : List Piece) (ok : AllByRecursion (PieceOk bs) ps) (some : 0 < length ps) where
   leaf_first : mergeable ps ≡ true
   leaf_first = go ps ok some
     where
@@ -97,7 +97,7 @@ module _ (bs : List ℕ) (ps : List Piece) (ok : All (PieceOk bs) ps) (some : 0 
       flat_or_bytes n (inl e) = rw e
       flat_or_bytes n (inr e) = rw e
 
-      go : (ps : List Piece) → All (PieceOk bs) ps → 0 < length ps → mergeable ps ≡ true
+      go : (ps : List Piece) → AllByRecursion (PieceOk bs) ps → 0 < length ps → mergeable ps ≡ true
       go [] h l = absurd (omega arith)
       go (p ∷ ps) h l = flat_or_bytes p.entries.kind h.0.leaf
 

@@ -1,6 +1,6 @@
 -- Pieces and slots: what the rules of a piece give to a reader of its keys and entries.
 use Rattle.std.proofs.Common.{◌≡◌, ℕ, ◌+◌, ◌<◌, ◌≤◌, List, [], ◌∷◌, ◌++◌, map, length, get_or, drop, Some, None, Option, sym, refl, ap, ◌∙◌, ap₂, arith, Bor}
-use Rattle.std.specs.List.{range_with_len, AllByRecursion as All}
+use Rattle.std.specs.List.{range_with_len, AllByRecursion}
 use Rattle.std.proofs.lemmas.List.{get_or-map, length-map, length-append, drop_more, drop_all}
 use Rattle.std.proofs.lemmas.List.FromFn.{get_or-map-range_with_len, length-map-range_with_len}
 use Rattle.std.proofs.ByRecursion.{All-get_or}
@@ -22,7 +22,7 @@ pub seen_as : (v : Option (Bor (List ℕ))) (r : Row) → value_row v ≡ r → 
 seen_as None r e = ap as_value e
 seen_as (Some s) r e = ap as_value e
 
-pub piece_at : (bs : List ℕ) (ps : List Piece) (i : ℕ) → All (PieceOk bs) ps → i < length ps → PieceOk bs (get_or ps i no_piece)
+pub piece_at : (bs : List ℕ) (ps : List Piece) (i : ℕ) → AllByRecursion (PieceOk bs) ps → i < length ps → PieceOk bs (get_or ps i no_piece)
 piece_at bs ps i h l = All-get_or (PieceOk bs) ps i no_piece l h
 
 -- an input of the merge is what is taken of its piece
@@ -36,7 +36,7 @@ value_is bs ps s h =
     ap (λ t. get_or t.entries s.entry None) (input_is bs ps s.input h.input)
     ∙ get_or-map-range_with_len (entry_at bs e) 0 e.length s.entry s.entry None h.entry (omega arith)
 
-pub entry_readable : (bs : List ℕ) (ps : List Piece) (s : Slot) → All (PieceOk bs) ps → SlotIn ps s
+pub entry_readable : (bs : List ℕ) (ps : List Piece) (s : Slot) → AllByRecursion (PieceOk bs) ps → SlotIn ps s
     → Readable bs (get_or ps s.input no_piece).entries ((get_or ps s.input no_piece).entries.start + s.entry)
 entry_readable bs ps s h l = readable bs _ [] (piece_at bs ps s.input h l.input).entries s.entry l.entry
 
@@ -69,13 +69,13 @@ slots_turn_length bs ps i l =
 pub slots_none_length : (bs : List ℕ) (ps : List Piece) (i : ℕ) → length ps ≤ i → length (slots_from i (drop i (taken_all bs ps))) ≡ 0
 slots_none_length bs ps i l = ap length (slots_none bs ps i l)
 
-pub entries_low : (bs : List ℕ) (ps : List Piece) (i : ℕ) → All (PieceOk bs) ps → i < length ps → (get_or ps i no_piece).entries.length ≤ 4294967295
+pub entries_low : (bs : List ℕ) (ps : List Piece) (i : ℕ) → AllByRecursion (PieceOk bs) ps → i < length ps → (get_or ps i no_piece).entries.length ≤ 4294967295
 entries_low bs ps i h l =
     let e : Record = (get_or ps i no_piece).entries in
     let t = leb-true (end_of e) 4294967295 (all_of_lem (record_rules bs e []) (piece_at bs ps i h l).entries).1.0 in
     omega arith
 
-pub rows_low : (bs : List ℕ) (ps : List Piece) (i : ℕ) → All (PieceOk bs) ps → i < length ps → (get_or ps i no_piece).keys.length ≤ 4294967295
+pub rows_low : (bs : List ℕ) (ps : List Piece) (i : ℕ) → AllByRecursion (PieceOk bs) ps → i < length ps → (get_or ps i no_piece).keys.length ≤ 4294967295
 rows_low bs ps i h l =
     let p : Piece = get_or ps i no_piece in
     let t = leb-true (end_of p.keys) 4294967295 (all_of_lem (record_rules bs p.keys (p.entries ∷ [])) (piece_at bs ps i h l).keys).1.0 in

@@ -1,6 +1,6 @@
 -- Pieces taken one after another.
 use Rattle.std.proofs.Common.{◌≡◌, ℕ, ◌+◌, ◌<◌, ◌≤◌, List, [], ◌∷◌, ◌++◌, length, get_or, take, drop, set, Ok, Err, Result, sym, refl, ap, ◌∙◌, subst, arith}
-use Rattle.std.specs.List.{AllByRecursion as All}
+use Rattle.std.specs.List.{AllByRecursion}
 use Rattle.std.proofs.lemmas.List.{append_assoc, append-nil, drop_more, drop_all, take_more_set}
 use Rattle.std.proofs.ByRecursion.{All-append}
 use Rattle.records.specs.declared.Record.{Record}
@@ -43,13 +43,13 @@ module _ (bs : List ℕ) (rs : List Record) (ss : List Stretch) where
 
   pub takes_more : (i : ℕ) (table : List Piece) (p : Piece) → i < length ss → i < length table
       → Ok p ≡ piece_answer bs rs (get_or ss i nowhere).place (get_or ss i nowhere).first (get_or ss i nowhere).rows → PieceOk bs p
-      → with_front (take i table) (pieces_from i bs rs (drop i ss)) ≡ pieces_from 0 bs rs ss → All (PieceOk bs) (take i table)
-      → (with_front (take (i + 1) (set table i p)) (pieces_from (i + 1) bs rs (drop (i + 1) ss)) ≡ pieces_from 0 bs rs ss) × All (PieceOk bs) (take (i + 1) (set table i p))
+      → with_front (take i table) (pieces_from i bs rs (drop i ss)) ≡ pieces_from 0 bs rs ss → AllByRecursion (PieceOk bs) (take i table)
+      → (with_front (take (i + 1) (set table i p)) (pieces_from (i + 1) bs rs (drop (i + 1) ss)) ≡ pieces_from 0 bs rs ss) × AllByRecursion (PieceOk bs) (take (i + 1) (set table i p))
   takes_more i table p l m e ok h all =
       let rest = pieces_from (i + 1) bs rs (drop (i + 1) ss) in (
         ap (λ x. with_front x rest) (take_more_set table i p m) ∙ front_more (take i table) i p rest
             ∙ ap (λ a. with_front (take i table) (with_piece i a rest)) e ∙ ap (with_front (take i table)) (sym (turn i l)) ∙ h,
-        subst (All (PieceOk bs)) (sym (take_more_set table i p m)) (All-append (PieceOk bs) (take i table) (p ∷ []) all (ok, tt)),
+        subst (AllByRecursion (PieceOk bs)) (sym (take_more_set table i p m)) (All-append (PieceOk bs) (take i table) (p ∷ []) all (ok, tt)),
       )
 
   pub takes_fault : (i : ℕ) (table : List Piece) (f : PieceFault) → i < length ss
@@ -60,12 +60,12 @@ module _ (bs : List ℕ) (rs : List Record) (ss : List Stretch) where
       sym h ∙ ap (with_front (take i table)) (turn i l) ∙ ap (λ a. with_front (take i table) (with_piece i a rest)) (sym e)
 
   pub takes_end : (i : ℕ) (table : List Piece) → length ss ≤ i → i ≤ length ss → with_front (take i table) (pieces_from i bs rs (drop i ss)) ≡ pieces_from 0 bs rs ss
-      → All (PieceOk bs) (take i table) → (pieces_from 0 bs rs ss ≡ Ok (take (length ss) table)) × All (PieceOk bs) (take (length ss) table)
+      → AllByRecursion (PieceOk bs) (take i table) → (pieces_from 0 bs rs ss ≡ Ok (take (length ss) table)) × AllByRecursion (PieceOk bs) (take (length ss) table)
   takes_end i table l m h all =
       let e : i ≡ length ss = omega arith in
       let n : pieces_from i bs rs (drop i ss) ≡ Ok [] = ap (pieces_from i bs rs) (drop_all i ss l) in (
         sym h ∙ ap (with_front (take i table)) n ∙ ap Ok (append-nil (take i table)) ∙ ap (λ k. Ok (take k table)) e,
-        subst (λ k. All (PieceOk bs) (take k table)) e all,
+        subst (λ k. AllByRecursion (PieceOk bs) (take k table)) e all,
       )
 
 -- the merge of pieces that were taken

@@ -1,7 +1,7 @@
 -- What a merge takes of pieces of dictionary columns in memory. `bs` is the byte memory.
 use Rattle.std.specs.Prelude.{◌≡◌, ℕ, ◌+◌, ◌<◌, true, cond, ◌⊎◌, List, [], ◌∷◌, map, length, Some, None, Ok, Err, Option, Result, ◌==◌, nat_lt, slice_index_or}
 use Rattle.std.specs.Borrow.{Bor}
-use Rattle.std.specs.List.{range_with_len, AllByRecursion as All}
+use Rattle.std.specs.List.{range_with_len, AllByRecursion}
 use Rattle.records.specs.declared.Record.{Record}
 use Rattle.records.specs.declared.Slot.{Slot}
 use Rattle.format.specs.Rows.{Row, null, raw, bit, listed, struct}
@@ -63,7 +63,7 @@ abbrev pub taken : Dictionaries → List Taken
 taken d = taken_all d.bytes.now d.pieces.now
 
 abbrev pub PiecesOk : Dictionaries → Type 0
-PiecesOk d = All (PieceOk d.bytes.now) d.pieces.now
+PiecesOk d = AllByRecursion (PieceOk d.bytes.now) d.pieces.now
 
 abbrev pub HasSlot : Dictionaries → Slot → Type 0
 HasSlot d s = SlotIn d.pieces.now s

@@ -1,6 +1,6 @@
 -- The merge of stretches of columns in any memory: first the pieces, then the merge.
 use Rattle.std.specs.Prelude.{◌≡◌, ℕ, ◌+◌, cond, List, [], ◌∷◌, length, take, Ok, Err, Result, nat_lt}
-use Rattle.std.specs.List.{AllByRecursion as All}
+use Rattle.std.specs.List.{AllByRecursion}
 use Rattle.records.specs.declared.Record.{Record}
 use Rattle.records.specs.declared.Slot.{Slot}
 use Rattle.dictionary.specs.declared.piece.Piece.{Piece}
@@ -29,7 +29,7 @@ pieces_of bs rs ss = cond (nat_lt 64 (length ss)) (Err fault.Crowd) (pieces_from
 
 -- a table of pieces begins with them
 abbrev pub Takes : Result ℕ PiecesFault → List ℕ → List Record → List Stretch → List Piece → Type 0
-Takes (Ok n) bs rs ss table = (n ≡ length ss) × (pieces_from 0 bs rs ss ≡ Ok (take n table)) × All (PieceOk bs) (take n table)
+Takes (Ok n) bs rs ss table = (n ≡ length ss) × (pieces_from 0 bs rs ss ≡ Ok (take n table)) × AllByRecursion (PieceOk bs) (take n table)
 Takes (Err f) bs rs ss table = pieces_from 0 bs rs ss ≡ Err f
 
 abbrev pub as_merge : Result ℕ MergeFault → Result ℕ PiecesFault

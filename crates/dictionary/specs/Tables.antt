@@ -1,6 +1,6 @@
 -- The lent tables of an interner, and what they stand for.
 use Rattle.std.specs.Prelude.{◌≡◌, ℕ, zero, suc, ◌+◌, ◌*◌, ◌^◌, ◌<◌, ◌≤◌, Bool, cond, List, [], ◌∷◌, length, Some, None, Option, ◌==◌, slice_index, slice_index_or, slice_set}
-use Rattle.std.specs.List.{AllByRecursion as All}
+use Rattle.std.specs.List.{AllByRecursion}
 use Rattle.records.specs.declared.Slot.{Slot}
 use Rattle.interning.specs.Values.{Value, same_value}
 use Rattle.interning.specs.Interning.{is_new, number_of, entries_with}
@@ -63,7 +63,7 @@ pub record Standing (hash : List ℕ → ℕ) (bs : List ℕ) (ps : List Piece) 
   pub low : shift < 64
   pub wide : count_of_buckets (taken_all bs ps) ≤ length buckets
   pub fits : n ≤ length chosen
-  pub within : All (SlotIn ps) (entries_in chosen n)
+  pub within : AllByRecursion (SlotIn ps) (entries_in chosen n)
   pub table : (b : ℕ) → b < count_of_buckets (taken_all bs ps) → slice_index buckets b ≡ held_in (slot_bucket hash (taken_all bs ps)) b (entries_in chosen n)
 
 -- slot s interned after the entries es: its number, whether it is new, and the entries after it

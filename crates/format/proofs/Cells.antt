@@ -1,6 +1,6 @@
 -- What is found in a row is the row, and its bytes end at or below the mark.
 use Rattle.std.proofs.Common.{◌≡◌, ℕ, ◌+◌, ◌-◌, ◌<◌, ◌≤◌, Bool, true, false, cond, List, [], ◌∷◌, ◌++◌, length, take, drop, sym, refl, ap, ◌∙◌, subst, arith}
-use Rattle.std.specs.List.{AllByRecursion as All}
+use Rattle.std.specs.List.{AllByRecursion}
 use Rattle.records.specs.declared.Record.{Record}
 use Rattle.format.specs.Rows.{Row, null, raw, first}
 use Rattle.format.specs.Trees.{Forest, end, node, preorder, tops, rec_at}
@@ -56,14 +56,14 @@ found_row_lem bs (node r kids next) X some k e i =
     (r.start + i))
 
 value_in : (bs : List ℕ) (r : Record) (ks : Forest) (kid : ℕ → Found) (K : Kind) → Says K bs r (tops ks)
-    → (SomeTree ks → (j : ℕ) → All (λ k. j < k.length) (tops ks) → FoundIn bs (kid j))
+    → (SomeTree ks → (j : ℕ) → AllByRecursion (λ k. j < k.length) (tops ks) → FoundIn bs (kid j))
     → (j : ℕ) → r.start ≤ j → j < end_of r → is_null bs r j ≡ false → FoundIn bs (found_at bs r K kid j)
 value_in bs r ks kid flat s k j a b v = in_room r.a r.width (end_of r) j (length bs) s b
 value_in bs r ks kid bits s k j a b v = tt
 value_in bs r ks kid bytes s k j a b v = omega (arith, s.0.steps j a b, s.0.below (j + 1) (omega arith) (omega arith), s.1)
 value_in bs r ks kid dictionary s k j a b v =
     let c = s.1 in
-    k (has_tree ks c.child c.alone) (number bs r j) (subst (All (λ x. number bs r j < x.length)) (sym c.alone) (c.holds j a b v, tt))
+    k (has_tree ks c.child c.alone) (number bs r j) (subst (AllByRecursion (λ x. number bs r j < x.length)) (sym c.alone) (c.holds j a b v, tt))
 value_in bs r ks kid list s k j a b v = tt
 value_in bs r ks kid structs s k j a b v = tt
 value_in bs r ks kid runs s k j a b v =
@@ -71,17 +71,17 @@ value_in bs r ks kid runs s k j a b v =
     let t = run_below 0 j (ends_of bs r) s.1 (omega arith) (omega (arith, s.2)) in
     let n = length-map-range_with_len (number bs r) 0 r.count in
     k (has_tree ks c.child c.alone) (run_of (ends_of bs r) j)
-    (subst (All (λ x. run_of (ends_of bs r) j < x.length)) (sym c.alone) (omega (arith, c.holds), tt))
+    (subst (AllByRecursion (λ x. run_of (ends_of bs r) j < x.length)) (sym c.alone) (omega (arith, c.holds), tt))
 value_in bs r ks kid other s k j a b v = tt
 
-pub found_in : (bs : List ℕ) (F : Forest) (X : List Record) → SomeTree F → Kept bs F → (i : ℕ) → All (λ k. i < k.length) (tops F) → FoundIn bs (found bs (preorder F ++ X) i)
+pub found_in : (bs : List ℕ) (F : Forest) (X : List Record) → SomeTree F → Kept bs F → (i : ℕ) → AllByRecursion (λ k. i < k.length) (tops F) → FoundIn bs (found bs (preorder F ++ X) i)
 found_in bs end X some k i l = absurd some
 found_in bs (node r kids next) X some k i l =
     go (is_null bs r (r.start + i)) refl
     (λ t j m. subst (λ y. FoundIn bs (found bs y j)) (sym (append_assoc (preorder kids) (preorder next) X)) (found_in bs kids (preorder next ++ X) t k.1 j m))
   where
     go : (t : Bool) → is_null bs r (r.start + i) ≡ t
-        → (SomeTree kids → (j : ℕ) → All (λ k. j < k.length) (tops kids) → FoundIn bs (found bs ((preorder kids ++ preorder next) ++ X) j))
+        → (SomeTree kids → (j : ℕ) → AllByRecursion (λ k. j < k.length) (tops kids) → FoundIn bs (found bs ((preorder kids ++ preorder next) ++ X) j))
         → FoundIn bs (cond t absent (found_at bs r (kind_of r.kind) (found bs ((preorder kids ++ preorder next) ++ X)) (r.start + i)))
     go true t h = tt
     go false t h =

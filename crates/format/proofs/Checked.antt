@@ -1,6 +1,6 @@
 -- A column that passes the check is a tree of records that keep their rules, and the other way round.
 use Rattle.std.proofs.Common.{◌≡◌, ℕ, zero, suc, ◌+◌, ◌-◌, ◌<◌, ◌≤◌, Bool, true, false, cond, eqb, ltb, leb, List, [], ◌∷◌, ◌++◌, map, length, get_or, take, drop, sym, refl, ap, ◌∙◌, subst, ap₂, zero-add, arith}
-use Rattle.std.specs.List.{AllByRecursion as All}
+use Rattle.std.specs.List.{AllByRecursion}
 use Rattle.records.specs.declared.Record.{Record}
 use Rattle.format.specs.Rows.{first}
 use Rattle.format.specs.Trees.{Forest, end, node, records_of, preorder, tops, parse, first_tree, nothing, rec_at}
@@ -54,7 +54,7 @@ module _ (bs : List ℕ) (rs : List Record) where
       rw (z, drop_more rs p nothing l) (ap (λ t. rec_at rs p ∷ t) (cut_two s m (drop (p + 1) rs) ∙ rw (drop-drop s (p + 1) rs, y)))
 
   build : (b k p e : ℕ) → e - p ≤ b → e ≤ length rs → ((i : ℕ) → p ≤ i → i < e → ruled_at bs rs i ≡ true)
-      → All (λ x. 1 ≤ x.span) (trees_from k rs p e) → p + total (λ x. x.span) (trees_from k rs p e) ≡ e
+      → AllByRecursion (λ x. 1 ≤ x.span) (trees_from k rs p e) → p + total (λ x. x.span) (trees_from k rs p e) ≡ e
       → Trees p e (trees_from k rs p e)
   build b zero p e lb le ok sp tl = let z : e - p ≡ 0 = omega arith in (end, tt, rw z, refl)
   build zero (suc k) p e lb le ok sp tl = go (ltb p e) refl tl
@@ -69,13 +69,13 @@ module _ (bs : List ℕ) (rs : List Record) where
       r = rec_at rs p
 
       go : (t : Bool) → ltb p e ≡ t
-          → All (λ x. 1 ≤ x.span) (cond t (rec_at rs p ∷ trees_from k rs (p + (rec_at rs p).span) e) [])
+          → AllByRecursion (λ x. 1 ≤ x.span) (cond t (rec_at rs p ∷ trees_from k rs (p + (rec_at rs p).span) e) [])
           → p + total (λ x. x.span) (cond t (rec_at rs p ∷ trees_from k rs (p + (rec_at rs p).span) e) []) ≡ e
           → ((q : ℕ) → e - q ≤ b → e ≤ length rs → ((i : ℕ) → q ≤ i → i < e → ruled_at bs rs i ≡ true)
-          → All (λ x. 1 ≤ x.span) (trees_from k rs q e) → q + total (λ x. x.span) (trees_from k rs q e) ≡ e → Trees q e (trees_from k rs q e))
+          → AllByRecursion (λ x. 1 ≤ x.span) (trees_from k rs q e) → q + total (λ x. x.span) (trees_from k rs q e) ≡ e → Trees q e (trees_from k rs q e))
           → (p + (rec_at rs p).span - (p + 1) ≤ b → p + (rec_at rs p).span ≤ length rs
           → ((i : ℕ) → p + 1 ≤ i → i < p + (rec_at rs p).span → ruled_at bs rs i ≡ true)
-          → All (λ x. 1 ≤ x.span) (children_at rs p) → p + 1 + total (λ x. x.span) (children_at rs p) ≡ p + (rec_at rs p).span
+          → AllByRecursion (λ x. 1 ≤ x.span) (children_at rs p) → p + 1 + total (λ x. x.span) (children_at rs p) ≡ p + (rec_at rs p).span
           → Trees (p + 1) (p + (rec_at rs p).span) (children_at rs p))
           → Trees p e (cond t (rec_at rs p ∷ trees_from k rs (p + (rec_at rs p).span) e) [])
       go false t sp tl rest below = let z : e - p ≡ 0 = omega arith in (end, tt, rw z, refl)
@@ -128,7 +128,7 @@ checked rs bs q w =
     let lst : trees_from 1 rs q (q + s) ≡ r ∷ [] = rw there in
     let T = build bs rs s 1 q (q + s) (omega arith) inside
     (λ i a b. at i (i - q) (omega arith) ruled (λ j x y. (sub_true (leb (q + j + (rec_at rs (q + j)).span) (q + s)) _ (sub_true (eqb (rec_at rs (q + j)).root 0) _ (none_not (λ i. inner_ok bs rs (q + s) (q + i)) 1 (s - 1) pw.1 j x y)).1).1) (omega arith))
-    (subst (All (λ x. 1 ≤ x.span)) (sym lst) (omega arith, tt))
+    (subst (AllByRecursion (λ x. 1 ≤ x.span)) (sym lst) (omega arith, tt))
     (rw lst (omega arith)) in
     let L = lone T.0 r (T.3 ∙ lst) in
     let z : q + s - q ≡ s = omega arith in

@@ -1,6 +1,6 @@
 -- What the rules of a record say of its buffers and children, as facts.
 use Rattle.std.proofs.Common.{◌≡◌, ℕ, suc, ◌+◌, ◌-◌, ◌*◌, ◌<◌, ◌≤◌, Bool, true, false, cond, eqb, leb, List, [], ◌∷◌, length, sym, refl, ap, arith}
-use Rattle.std.specs.List.{AllByRecursion as All}
+use Rattle.std.specs.List.{AllByRecursion}
 use Rattle.records.specs.declared.Record.{Record}
 use Rattle.numbers.specs.Bits.{bit_bytes}
 use Rattle.format.specs.Rows.{first}
@@ -73,7 +73,7 @@ Says dictionary bs r ks =
     (r.a + end_of r * r.width ≤ length bs)
     × Lone ks (λ k. (j : ℕ) → r.start ≤ j → j < end_of r → is_null bs r j ≡ false → number bs r j < k.length)
 Says list bs r ks = Lone ks (λ k. Offsets bs r k.length)
-Says structs bs r ks = All (λ k. end_of r ≤ k.length) ks
+Says structs bs r ks = AllByRecursion (λ k. end_of r ≤ k.length) ks
 Says runs bs r ks =
     (r.a + r.count * r.width ≤ length bs) × Rising 0 (ends_of bs r) × (end_of r ≤ last 0 (ends_of bs r)) × Lone ks (λ k. r.count ≤ k.length)
 Says other bs r ks = ⊥

@@ -1,7 +1,7 @@
 -- A column keeps its rules and its rows where its bytes lie elsewhere and where memory grows above it; a slice has a stretch of the
 -- rows.
 use Rattle.std.proofs.Common.{◌≡◌, ℕ, ◌+◌, ◌-◌, ◌*◌, ◌/◌, ◌%◌, ◌^◌, ◌<◌, ◌≤◌, Bool, true, false, cond, eqb, List, [], ◌∷◌, ◌++◌, map, length, get_or, take, drop, sym, refl, ap, ◌∙◌, subst, ap₂, add-zero, add_assoc, zero-add, arith}
-use Rattle.std.specs.List.{between, AllByRecursion as All, range_with_len}
+use Rattle.std.specs.List.{between, AllByRecursion, range_with_len}
 use Rattle.records.specs.declared.Record.{Record}
 use Rattle.numbers.specs.Little.{little, number_at}
 use Rattle.numbers.specs.Bits.{bit_at, bit_bytes}
@@ -105,7 +105,7 @@ module _ (d : ℕ) (M N : List ℕ) (h : Holds d M N) where
 
     -- the value at a position that is not null
     value_held : (K : Kind) → Is K r.kind → (ks : List Record) → Says K M r ks → (new old : ℕ → List Row)
-        → ((j : ℕ) → All (λ k. j < k.length) ks → new j ≡ old j)
+        → ((j : ℕ) → AllByRecursion (λ k. j < k.length) ks → new j ≡ old j)
         → (j : ℕ) → r.start ≤ j → j < end_of r → is_null M r j ≡ false → value_at N (moved d r) K new j ≡ value_at M r K old j
     value_held flat i ks s new old e j a b v =
         ap raw
@@ -127,7 +127,7 @@ module _ (d : ℕ) (M N : List ℕ) (h : Holds d M N) where
         let c = s.1 in
         ap first
         (ap new (numbers_held (other_kind 4 i refl) j (in_room r.a r.width (end_of r) j (length M) s.0 b))
-        ∙ e (number M r j) (subst (All (λ k. number M r j < k.length)) (sym c.alone) (c.holds j a b v, tt)))
+        ∙ e (number M r j) (subst (AllByRecursion (λ k. number M r j < k.length)) (sym c.alone) (c.holds j a b v, tt)))
     value_held list i ks s new old e j a b v =
         let o = s.holds in
         let read = λ (x : ℕ). λ (l : x < end_of r + 1). numbers_held (other_kind 5 i refl) x (in_room r.a r.width (end_of r + 1) x (length M) o.fits l) in
@@ -135,7 +135,7 @@ module _ (d : ℕ) (M N : List ℕ) (h : Holds d M N) where
         (ap₂ (λ x y. map (λ k. first (new k)) (range_with_len x (y - x))) (read j (omega arith)) (read (j + 1) (omega arith))
         ∙ map-counting-same (λ k. first (new k)) (λ k. first (old k)) (number M r j) (number M r j) (number M r (j + 1) - number M r j)
         (λ k l. ap first (e (number M r j + k)
-        (subst (All (λ x. number M r j + k < x.length)) (sym s.alone) (omega (arith, o.below (j + 1) (omega arith) (omega arith)), tt)))))
+        (subst (AllByRecursion (λ x. number M r j + k < x.length)) (sym s.alone) (omega (arith, o.below (j + 1) (omega arith) (omega arith)), tt)))))
     value_held structs i ks s new old e j a b v = ap (λ x. struct (rows x)) (e j (All-weaker _ _ (λ x l. omega arith) ks s))
     value_held runs i ks s new old e j a b v =
         let ends : ends_of N (moved d r) ≡ ends_of M r =
@@ -145,7 +145,7 @@ module _ (d : ℕ) (M N : List ℕ) (h : Holds d M N) where
         let n = length-map-range_with_len (number M r) 0 r.count in
         ap first
         (ap (λ es. new (run_of es j)) ends
-        ∙ e (run_of (ends_of M r) j) (subst (All (λ k. run_of (ends_of M r) j < k.length)) (sym c.alone) (omega (arith, c.holds), tt)))
+        ∙ e (run_of (ends_of M r) j) (subst (AllByRecursion (λ k. run_of (ends_of M r) j < k.length)) (sym c.alone) (omega (arith, c.holds), tt)))
     value_held other i ks s new old e j a b v = refl
 
   same_tops : (F : Forest) → SameKids (tops F) (tops (moved_trees d F))
@@ -160,7 +160,7 @@ module _ (d : ℕ) (M N : List ℕ) (h : Holds d M N) where
     kept_held next k.2,
   )
 
-  pub decode_held : (F : Forest) → Kept M F → (i : ℕ) → All (λ k. i < k.length) (tops F) → decode N (moved_trees d F) i ≡ decode M F i
+  pub decode_held : (F : Forest) → Kept M F → (i : ℕ) → AllByRecursion (λ k. i < k.length) (tops F) → decode N (moved_trees d F) i ≡ decode M F i
   decode_held end k i l = refl
   decode_held (node r kids next) k i l =
       ap₂ (λ x y. x ∷ y)

@@ -1,6 +1,6 @@
 -- Tests over lists and over ranges of numbers.
 use Rattle.std.proofs.Common.{◌≡◌, ℕ, zero, suc, ◌+◌, ◌-◌, ◌<◌, ◌≤◌, Bool, true, false, cond, List, [], ◌∷◌, map, Some, None, Option, sym, refl, ap, add-zero, arith}
-use Rattle.std.specs.List.{AllByRecursion as All, range_with_len}
+use Rattle.std.specs.List.{AllByRecursion, range_with_len}
 use Rattle.format.specs.Rules.{both, all_of, every, first_not}
 
 pub no_way : {A : Type 0} → false ≡ true → A
@@ -19,15 +19,15 @@ same_test true b f g = sym (f refl)
 same_test false true f g = g refl
 same_test false false f g = refl
 
-pub all_of_lem : (ts : List Bool) → all_of ts ≡ true → All (λ t. t ≡ true) ts
+pub all_of_lem : (ts : List Bool) → all_of ts ≡ true → AllByRecursion (λ t. t ≡ true) ts
 all_of_lem [] h = tt
 all_of_lem (t ∷ ts) h = let s = sub_true _ _ h in (s.0, all_of_lem ts s.1)
 
-pub all_in : (ts : List Bool) → All (λ t. t ≡ true) ts → all_of ts ≡ true
+pub all_in : (ts : List Bool) → AllByRecursion (λ t. t ≡ true) ts → all_of ts ≡ true
 all_in [] h = refl
 all_in (t ∷ ts) h = both_true t (all_of ts) h.0 (all_in ts h.1)
 
-pub each : {X : Type 0} (f : X → Bool) (xs : List X) → every f xs ≡ true → All (λ x. f x ≡ true) xs
+pub each : {X : Type 0} (f : X → Bool) (xs : List X) → every f xs ≡ true → AllByRecursion (λ x. f x ≡ true) xs
 each f [] h = tt
 each f (x ∷ xs) h = let s = sub_true _ _ h in (s.0, each f xs s.1)
 

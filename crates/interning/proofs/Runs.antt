@@ -1,7 +1,7 @@
 -- Interning any values, by any sameness and any bucket.
 use Rattle.std.proofs.Common.{◌≡◌, ℕ, zero, suc, ◌+◌, ◌-◌, ◌<◌, ◌≤◌, Bool, true, false, cond, eqb, List, [], ◌∷◌, reverse, length, get_or, take, Some, None, Option, sym, refl, ap, ◌∙◌, subst, inl, inr, arith}
 use mathlib.Core.List.{reverse_aux}
-use Rattle.std.specs.List.{ContainsAt as Has, AllByRecursion as All}
+use Rattle.std.specs.List.{ContainsAt as Has, AllByRecursion}
 use Rattle.std.proofs.lemmas.Bool.{eqb-true, eqb-false, both_ways, cases_lt, cond_both}
 use Rattle.std.proofs.ByRecursion.{All-get_or, all_has_itself}
 use Rattle.std.proofs.lemmas.List.{length-reverse, get_or-reverse}
@@ -204,7 +204,7 @@ module _ {V : Type 0} (same : V → V → Bool) (bucket : V → ℕ) where
     -- no two of some entries are the same
     abbrev Apart : List V → Type 0
     Apart [] = Unit {0}
-    Apart (e ∷ es) = All (λ x. same x e ≡ false) es × Apart es
+    Apart (e ∷ es) = AllByRecursion (λ x. same x e ≡ false) es × Apart es
 
     -- so entries at two places are not
     apart_at : (es : List V) (i j : ℕ) (d : V) → Apart es → i < j → j < length es → same (get_or es j d) (get_or es i d) ≡ false
@@ -216,7 +216,7 @@ module _ {V : Type 0} (same : V → V → Bool) (bucket : V → ℕ) where
     module _ (U : V → Type 0) (shares : (a b : V) → U a → U b → same a b ≡ true → bucket a ≡ bucket b)
         (parts : (a b : V) → U a → U b → bucket a ≡ bucket b → same a b ≡ true) where
       -- where different values have different buckets, a new value is the same as no entry
-      step_apart : (v : V) (es : List V) → U v → All U es → is_new same bucket v es ≡ true → All (λ x. same x v ≡ false) es
+      step_apart : (v : V) (es : List V) → U v → AllByRecursion U es → is_new same bucket v es ≡ true → AllByRecursion (λ x. same x v ≡ false) es
       step_apart v [] u us h = tt
       step_apart v (x ∷ es) u us h = go (eqb (bucket x) (bucket v)) refl h (step_apart v es u us.1)
         where
@@ -225,18 +225,18 @@ module _ {V : Type 0} (same : V → V → Bool) (bucket : V → ℕ) where
           no false e s = refl
 
           go : (t : Bool) → eqb (bucket x) (bucket v) ≡ t → differs same v (cond t (Some x) (last_in bucket (bucket v) es)) ≡ true
-              → (is_new same bucket v es ≡ true → All (λ x. same x v ≡ false) es) → (same x v ≡ false) × All (λ x. same x v ≡ false) es
+              → (is_new same bucket v es ≡ true → AllByRecursion (λ x. same x v ≡ false) es) → (same x v ≡ false) × AllByRecursion (λ x. same x v ≡ false) es
           go true t h ih =
               let s = parts x v us.0 u (eqb-true (bucket x) (bucket v) t) in
               absurd (both_ways (cond (same x v) false true) (ap (λ c. cond c false true) s) h)
           go false t h ih = (no (same x v) t refl, ih h)
 
       -- so entries stay apart
-      run_apart : (vs es : List V) → All U vs → All U es → Apart es → Apart (entries_after same bucket vs es)
+      run_apart : (vs es : List V) → AllByRecursion U vs → AllByRecursion U es → Apart es → Apart (entries_after same bucket vs es)
       run_apart [] es us ue a = a
       run_apart (v ∷ vs) es us ue a = go (is_new same bucket v es) refl (run_apart vs)
         where
-          go : (t : Bool) → is_new same bucket v es ≡ t → ((fs : List V) → All U vs → All U fs → Apart fs → Apart (entries_after same bucket vs fs))
+          go : (t : Bool) → is_new same bucket v es ≡ t → ((fs : List V) → AllByRecursion U vs → AllByRecursion U fs → Apart fs → Apart (entries_after same bucket vs fs))
               → Apart (entries_after same bucket vs (cond t (v ∷ es) es))
           go true t ih = ih (v ∷ es) us.1 (us.0, ue) (step_apart v es us.0 ue t, a)
           go false t ih = ih es us.1 ue a

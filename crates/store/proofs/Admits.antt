@@ -1,5 +1,5 @@
 use Rattle.std.proofs.Common.{◌≡◌, ℕ, ◌+◌, ◌-◌, ◌^◌, ◌<◌, ◌≤◌, List, ◌++◌, map, length, get_or, take, replicate, ap, ◌∙◌, arith}
-use Rattle.std.specs.List.{AllByRecursion as All}
+use Rattle.std.specs.List.{AllByRecursion}
 use Rattle.std.proofs.lemmas.List.{length-replicate, length-append, length-map, length-take-le, get_or-take}
 use Rattle.std.proofs.ByRecursion.{All-from_get_or}
 use Rattle.numbers.specs.Puts.{put}
@@ -22,7 +22,7 @@ zeros_and_data d s at base le fit =
     ap (λ b. put b s (put at (replicate (base - at) 0) d)) e ∙ put_more at (replicate (base - at) 0) s d fit
 
 -- the places of a column that breaks no rule can be moved
-pub all_movable : (bs : List ℕ) (rs : List Record) (d : ℕ) → Right bs rs 0 → d + length bs < 2 ^ 64 → All (Movable d) (take (rec_at rs 0).span rs)
+pub all_movable : (bs : List ℕ) (rs : List Record) (d : ℕ) → Right bs rs 0 → d + length bs < 2 ^ 64 → AllByRecursion (Movable d) (take (rec_at rs 0).span rs)
 all_movable bs rs d ok h =
     let l = length-take-le (rec_at rs 0).span rs (omega (arith, ok.inside)) in
     All-from_get_or (Movable d) (take (rec_at rs 0).span rs) nothing (λ i lt. one i (omega arith))

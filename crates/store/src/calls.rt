@@ -1,5 +1,5 @@
 ghost use Rattle.std.specs.Prelude.{◌≡◌, ◌+◌, ◌-◌, ◌/◌, ◌^◌, ◌<◌, ◌≤◌, true, ◌∷◌, map, length, take, replicate, nat_lt};
-ghost use Rattle.std.specs.List.{AllByRecursion as All};
+ghost use Rattle.std.specs.List.{AllByRecursion};
 ghost use Rattle.numbers.specs.Puts.{put, part};
 ghost use Rattle.format.specs.Trees.{rec_at};
 ghost use Rattle.format.specs.Moves.{window, moved};
@@ -126,7 +126,7 @@ fn moved_by(r: Record, d: u64) -> Record
 // The records of an outside column, moved along.
 fn write_moved(records: &mut [Record], column: &[Record], d: u64, at: usize)
     requires room { at + length column.now ≤ length records.old }
-    requires movable { All (Movable d) column.now }
+    requires movable { AllByRecursion (Movable d) column.now }
     ensures { records.new ≡ put at (map (moved d) column.now) records.old }
 {
     for i in 0..column.len() {
