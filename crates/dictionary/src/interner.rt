@@ -1,4 +1,4 @@
-ghost use Rattle.std.specs.Prelude.{◌≡◌, ℕ, ◌+◌, ◌*◌, ◌/◌, ◌^◌, ◌<◌, ◌≤◌, Bool, true, false, map, length, get_or, take, filter, slice_index, slice_index_or, slice_set};
+ghost use Rattle.std.specs.Prelude.{◌≡◌, ℕ, ◌+◌, ◌*◌, ◌/◌, ◌^◌, ◌<◌, ◌≤◌, Bool, true, false, map, length, take, filter, slice_index, slice_index_or, slice_set};
 ghost use Rattle.interning.specs.Values.{hashed_as, same_value};
 ghost use Rattle.interning.specs.Merging.{value_of, slot as slot_at, slots_in, slots_of, used_slots, is_used, count_of_buckets, chosen_slots, key_here, stepped, keys_from, walked, slot_keys};
 ghost use Rattle.dictionary.specs.Pieces.{seen, taken, no_piece, PiecesOk, HasSlot};
@@ -155,7 +155,7 @@ impl<'t> Interner<'t> {
     )
         requires ok { PiecesOk from.now }
         requires input { input < length from.now.pieces.now }
-        requires long { length keys.old ≡ (get_or from.now.pieces.now input no_piece).entries.length }
+        requires long { length keys.old ≡ (slice_index_or from.now.pieces.now input no_piece).entries.length }
         requires marks { keys.old ≡ map (mark_of (taken from.now)) (slots_in input (length keys.old)) }
         requires stands { Stands (H.meaning hash.old) from.now self.old }
         requires room { self.old.entries + length (filter (is_used (taken from.now)) (slots_in input (length keys.old))) ≤ length self.old.chosen.now }

@@ -1,6 +1,6 @@
 -- What a well-formed column is: the rules of each record, and the number of the first record that breaks one. `bs` is the byte memory
 -- up to its mark, `rs` the record memory up to its mark.
-use Rattle.std.specs.Prelude.{◌≡◌, ℕ, zero, suc, ◌+◌, ◌-◌, ◌*◌, Bool, true, false, cond, leb, List, [], ◌∷◌, length, Some, None, Option, ◌==◌, nat_eq, nat_le, nat_lt}
+use Rattle.std.specs.Prelude.{◌≡◌, ℕ, zero, suc, ◌+◌, ◌-◌, ◌*◌, Bool, true, false, cond, nat_le, List, [], ◌∷◌, length, Some, None, Option, ◌==◌, nat_eq, nat_lt}
 use Rattle.std.specs.List.{range_with_len}
 use Rattle.records.specs.declared.Record.{Record}
 use Rattle.numbers.specs.Little.{not_negative}
@@ -53,7 +53,7 @@ abbrev pub offset_rules : List ℕ → Record → ℕ → List Bool
 offset_rules bs r most =
     room bs r.a ((end_of r + 1) * r.width)
     ∷ every (λ j. not_negative true r.width (number bs r j)) (range_with_len r.start (r.length + 1))
-    ∷ every (λ j. leb (number bs r j) (number bs r (j + 1))) (range_with_len r.start r.length)
+    ∷ every (λ j. nat_le (number bs r j) (number bs r (j + 1))) (range_with_len r.start r.length)
     ∷ nat_le (number bs r (end_of r)) most ∷ []
 
 -- the key at position j is not negative and names one of the entries, unless the position is null
@@ -88,11 +88,11 @@ kind_rules bs r kids list =
     one_of r.width (4 ∷ 8 ∷ []) ∷ one_child kids (λ k. all_of (offset_rules bs r k.length))
     ∷ zeros (r.size ∷ r.b ∷ r.count ∷ []) ∷ []
 kind_rules bs r kids structs =
-    every (λ k. leb (end_of r) k.length) kids ∷ zeros (r.width ∷ r.size ∷ r.a ∷ r.b ∷ r.count ∷ []) ∷ []
+    every (λ k. nat_le (end_of r) k.length) kids ∷ zeros (r.width ∷ r.size ∷ r.a ∷ r.b ∷ r.count ∷ []) ∷ []
 kind_rules bs r kids runs =
     one_of r.width (2 ∷ 4 ∷ 8 ∷ []) ∷ room bs r.a (r.count * r.width)
     ∷ every (λ e. not_negative true r.width e) (ends_of bs r) ∷ rises 0 (ends_of bs r) ∷ nat_le (end_of r) (last 0 (ends_of bs r))
-    ∷ one_child kids (λ k. leb r.count k.length) ∷ zeros (r.nulls ∷ r.size ∷ r.b ∷ []) ∷ []
+    ∷ one_child kids (λ k. nat_le r.count k.length) ∷ zeros (r.nulls ∷ r.size ∷ r.b ∷ []) ∷ []
 kind_rules bs r kids other = false ∷ []
 
 -- the validity bitmap, where there is one
@@ -103,7 +103,7 @@ validity_ok bs r = cond (r.nulls == 1) (room bs r.v (bit_bytes (end_of r))) (zer
 abbrev pub record_rules : List ℕ → Record → List Record → List Bool
 record_rules bs r kids =
     nat_le r.logic 65535 ∷ nat_le (end_of r) 4294967295 ∷ validity_ok bs r ∷ all_of (kind_rules bs r kids (kind_of r.kind))
-    ∷ every (λ k. leb 1 k.span) kids ∷ (r.span == 1 + total (λ k. k.span) kids) ∷ []
+    ∷ every (λ k. nat_le 1 k.span) kids ∷ (r.span == 1 + total (λ k. k.span) kids) ∷ []
 
 -- the first records of the trees that start at p, each behind the one before it, up to e; at most n of them
 abbrev pub trees_from : ℕ → List Record → ℕ → ℕ → List Record
