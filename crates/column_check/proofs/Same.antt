@@ -1,11 +1,11 @@
 -- The tests of the check and the rules of the format agree.
-use Rattle.std.proofs.Common.{◌≡◌, ℕ, zero, suc, ◌+◌, ◌-◌, ◌≤◌, Bool, true, false, cond, eqb, ltb, leb, List, [], ◌∷◌, map, length, get_or, Some, sym, refl, ap, ◌∙◌, subst, arith}
+use Rattle.std.proofs.Common.{◌≡◌, ℕ, zero, suc, ◌+◌, ◌-◌, ◌≤◌, Bool, true, false, cond, eqb, ltb, leb, List, [], ◌∷◌, map, get_or, Some, sym, refl, ap, ◌∙◌, subst, arith}
 use Rattle.std.specs.List.{range_with_len, AllByRecursion}
 use Rattle.std.proofs.lemmas.Bool.{leb-true, ltb-false, eqb-true, eq-eqb, lt-ltb, le-ltb, le-leb}
 use Rattle.records.specs.declared.Record.{Record}
 use Rattle.numbers.specs.Little.{not_negative}
 use Rattle.format.specs.Trees.{rec_at}
-use Rattle.format.specs.Meaning.{Kind, flat, bits, bytes, dictionary, list, structs, runs, other, kind_of, number, ends_of}
+use Rattle.format.specs.Meaning.{Kind, flat, bits, bytes, dictionary, list, structs, runs, kind_of, number, ends_of}
 use Rattle.format.specs.Rules.{both, all_of, every, total, last, rises, end_of, offset_rules, one_child, no_child, kind_rules, record_rules, trees_from, children_at, ruled_at, ok_at, root_rules, inner_ok, first_not, first_broken}
 use Rattle.format.proofs.Tests.{no_way, sub_true, both_true, same_test, all_of_lem, all_in}
 use Rattle.column_check.specs.Tests.{in_turn, climbs, offsets_of, offsets_ok, rising, reaches, walk, single, flat_tests, bit_tests, bytes_tests, dictionary_tests, list_tests, struct_tests, run_tests, kind_ok, record_tests, root_tests, inner_from, first_failed}

@@ -1,11 +1,11 @@
 -- A piece of a checked column keeps its rules.
-use Rattle.std.proofs.Common.{◌≡◌, ℕ, ◌+◌, ◌<◌, ◌≤◌, Bool, true, false, cond, eqb, ◌⊎◌, List, [], ◌∷◌, sym, refl, ap, ◌∙◌, subst, inl, inr, arith}
+use Rattle.std.proofs.Common.{◌≡◌, ℕ, ◌+◌, ◌≤◌, Bool, true, false, cond, eqb, ◌⊎◌, List, [], ◌∷◌, refl, ap, ◌∙◌, subst, inl, inr, arith}
 use Rattle.std.proofs.lemmas.Bool.{eqb-true}
 use Rattle.records.specs.declared.Record.{Record}
 use Rattle.format.specs.Trees.{rec_at}
 use Rattle.format.specs.Meaning.{Kind, flat, bytes, dictionary, kind_of}
 use Rattle.format.specs.Moves.{window}
-use Rattle.format.specs.Rules.{both, all_of, one_of, no_child, kind_rules, record_rules, children_at, ruled_at, WellFormed}
+use Rattle.format.specs.Rules.{both, all_of, one_of, no_child, kind_rules, record_rules, children_at, WellFormed}
 use Rattle.format.proofs.Tests.{no_way, sub_true, all_of_lem}
 use Rattle.format.proofs.Facts.{Says, facts}
 use Rattle.format.proofs.Known.{right}

@@ -1,5 +1,5 @@
 -- The number of buckets by shifts, and the largest key.
-use Rattle.std.proofs.Common.{◌≡◌, ℕ, zero, suc, ◌+◌, ◌-◌, ◌*◌, ◌/◌, ◌^◌, ◌<◌, ◌≤◌, Bool, true, false, cond, eqb, List, [], ◌∷◌, sym, refl, ap, ◌∙◌, subst, ap₂, lt_of_mul-lt-mul_right, arith, pow_pos, pow-add}
+use Rattle.std.proofs.Common.{◌≡◌, ℕ, zero, suc, ◌+◌, ◌-◌, ◌*◌, ◌/◌, ◌^◌, ◌<◌, ◌≤◌, Bool, true, false, cond, eqb, List, [], ◌∷◌, sym, refl, ap, ◌∙◌, subst, ap₂, arith, pow-add}
 use native.Mathlib.Decide.{dec_lt}
 use lib.Count.{count_leading_zeros, leading_unique}
 use Rattle.std.specs.List.{AllByRecursion}

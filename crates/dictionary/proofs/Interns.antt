@@ -1,14 +1,13 @@
 -- One slot interned: what the tables hold decides it, and afterwards they stand for the entries again.
-use Rattle.std.proofs.Common.{◌≡◌, ℕ, zero, suc, ◌+◌, ◌*◌, ◌/◌, ◌^◌, ◌<◌, ◌≤◌, Bool, true, false, cond, eqb, ◌≢◌, List, [], ◌∷◌, ◌++◌, reverse, length, get_or, take, set, Some, None, Option, sym, refl, ap, ◌∙◌, subst, ap₂, mul_comm, div-lt_iff_lt-mul, add-one, arith, get_or-set_other, get_or-set_same, pow_pos}
+use Rattle.std.proofs.Common.{◌≡◌, ℕ, zero, suc, ◌+◌, ◌*◌, ◌/◌, ◌^◌, ◌<◌, ◌≤◌, Bool, true, false, cond, eqb, ◌≢◌, List, [], ◌∷◌, ◌++◌, reverse, length, get_or, take, set, Some, None, sym, refl, ap, ◌∙◌, subst, ap₂, div-lt_iff_lt-mul, add-one, arith, get_or-set_other, get_or-set_same, pow_pos}
 use mathlib.Core.List.{reverse-cons}
 use native.Mathlib.Nat.{mul-div_cancel_left}
 use Rattle.std.specs.List.{AllByRecursion}
 use Rattle.std.proofs.lemmas.List.{length-set, take_more, length-take-le}
-use Rattle.std.proofs.lemmas.Bool.{eqb-true, eqb-false, eq-eqb, ne_eqb}
+use Rattle.std.proofs.lemmas.Bool.{eqb-true, eqb-false}
 use Rattle.records.specs.declared.Slot.{Slot}
 use Rattle.interning.specs.Values.{Value, hashed_as, same_value}
-use Rattle.interning.specs.Buckets.{bucket_among}
-use Rattle.interning.specs.Interning.{last_in, number_in, differs, is_new, number_of, entries_with, entries_after}
+use Rattle.interning.specs.Interning.{last_in, number_in, differs, is_new, number_of, entries_after}
 use Rattle.interning.specs.Merging.{Taken, slot, slots_of, value_of, used_slots, same_slot, slot_bucket, count_of_buckets, chosen_slots, walked}
 use Rattle.interning.proofs.Walks.{walk_entries}
 use Rattle.dictionary.specs.declared.piece.Piece.{Piece}

@@ -1,5 +1,5 @@
 -- Masks: the used entries of a piece, and the marks of all slots.
-use Rattle.std.proofs.Common.{◌≡◌, ℕ, zero, suc, ◌+◌, ◌-◌, ◌<◌, ◌≤◌, Bool, true, false, cond, eqb, ltb, ◌≢◌, List, [], ◌∷◌, ◌++◌, map, length, get_or, take, drop, set, Some, None, filter, Option, sym, refl, ap, ◌∙◌, subst, ap₂, inl, inr, arith}
+use Rattle.std.proofs.Common.{◌≡◌, ℕ, suc, ◌+◌, ◌-◌, ◌<◌, ◌≤◌, Bool, true, false, cond, eqb, ltb, ◌≢◌, List, [], ◌∷◌, ◌++◌, map, length, get_or, take, drop, set, Some, None, filter, Option, sym, refl, ap, ◌∙◌, subst, inl, inr, arith}
 use mathlib.Core.List.{map-map}
 use Rattle.std.specs.List.{range_with_len}
 use Rattle.std.proofs.lemmas.Bool.{eqb-true, eqb-false, cases_lt}
@@ -8,8 +8,7 @@ use Rattle.std.proofs.lemmas.List.FromFn.{fill_by_all, length-map-range_with_len
 use Rattle.std.proofs.lemmas.Slice.{take-put_mid}
 use Rattle.numbers.proofs.Places.{mid_put, length-put}
 use Rattle.records.specs.declared.Record.{Record}
-use Rattle.format.specs.Meaning.{Kind, dictionary, kind_of, is_null, number}
-use Rattle.format.specs.Rules.{all_of, record_rules, end_of}
+use Rattle.format.specs.Meaning.{dictionary, kind_of, is_null, number}
 use Rattle.format.proofs.Facts.{Says, facts}
 use Rattle.columns.specs.Held.{key_at}
 use Rattle.column_check.proofs.Loops.{turn_at}

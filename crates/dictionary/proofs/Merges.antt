@@ -1,24 +1,22 @@
 -- The answers of a merge, and what it leaves.
-use Rattle.std.proofs.Common.{◌≡◌, ℕ, zero, suc, ◌+◌, ◌*◌, ◌^◌, ◌<◌, ◌≤◌, Bool, true, false, cond, not, eqb, ltb, leb, ◌⊎◌, List, [], ◌∷◌, ◌++◌, map, length, get_or, take, drop, Ok, Err, filter, sym, refl, ap, ◌∙◌, subst, inl, inr, arith, pow_pos}
+use Rattle.std.proofs.Common.{◌≡◌, ℕ, ◌+◌, ◌*◌, ◌^◌, ◌<◌, ◌≤◌, Bool, true, false, not, eqb, ltb, leb, ◌⊎◌, List, [], ◌∷◌, ◌++◌, map, length, get_or, take, drop, Ok, Err, filter, sym, refl, ap, ◌∙◌, inl, inr, arith, pow_pos}
 use native.Mathlib.Nat.{eq_of_mul-eq-mul_right}
 use lib.Count.{count_leading_zeros}
 use Rattle.std.specs.List.{AllByRecursion}
 use Rattle.std.proofs.lemmas.Bool.{lt-ltb, le-ltb}
 use Rattle.std.proofs.lemmas.List.{length-append, length-drop, length-take-le, take_at, drop_more, drop_all}
 use Rattle.std.proofs.lemmas.List.Filters.{length-filter_both}
-use Rattle.records.specs.declared.Slot.{Slot}
 use Rattle.numbers.specs.Little.{largest}
 use Rattle.format.specs.Rules.{both, every, one_of}
 use Rattle.interning.specs.Values.{same_value}
-use Rattle.interning.specs.Buckets.{buckets_for}
-use Rattle.interning.specs.Merging.{Taken, slots_of, is_used, used_slots, count_of_buckets, chosen_slots, slot_keys}
+use Rattle.interning.specs.Merging.{Taken, slots_of, is_used, used_slots, count_of_buckets, chosen_slots}
 use Rattle.interning.specs.Promises.{Merged}
 use Rattle.interning.proofs.Values.{equality}
 use Rattle.interning.proofs.Merges as merges
 use Rattle.dictionary.specs.declared.piece.Piece.{Piece}
 use Rattle.dictionary.specs.declared.merge.MergeFault.TheVariants.{Scratch, Keys}
 use Rattle.dictionary.specs.Pieces.{taken_all, no_piece, PieceOk}
-use Rattle.dictionary.specs.Tables.{in_table, mark_of}
+use Rattle.dictionary.specs.Tables.{mark_of}
 use Rattle.dictionary.specs.Merges.{most_key, merge_answer, same_record, same_entries, mergeable, either, slot_total, row_total, should_merge}
 use Rattle.dictionary.proofs.Slots.{slots_total}
 use Rattle.dictionary.proofs.Masks.{set_used}

@@ -1,6 +1,6 @@
 -- Pieces and slots: what the rules of a piece give to a reader of its keys and entries.
-use Rattle.std.proofs.Common.{◌≡◌, ℕ, ◌+◌, ◌<◌, ◌≤◌, List, [], ◌∷◌, ◌++◌, map, length, get_or, drop, Some, None, Option, sym, refl, ap, ◌∙◌, ap₂, arith, Bor}
-use Rattle.std.specs.List.{range_with_len, AllByRecursion}
+use Rattle.std.proofs.Common.{◌≡◌, ℕ, ◌+◌, ◌<◌, ◌≤◌, List, [], ◌∷◌, ◌++◌, length, get_or, drop, Some, None, Option, refl, ap, ◌∙◌, ap₂, arith, Bor}
+use Rattle.std.specs.List.{AllByRecursion}
 use Rattle.std.proofs.lemmas.List.{get_or-map, length-map, length-append, drop_more, drop_all}
 use Rattle.std.proofs.lemmas.List.FromFn.{get_or-map-range_with_len, length-map-range_with_len}
 use Rattle.std.proofs.ByRecursion.{All-get_or}
@@ -13,8 +13,7 @@ use Rattle.std.proofs.lemmas.Bool.{leb-true}
 use Rattle.columns.specs.Held.{value_row}
 use Rattle.columns.specs.Readable.{Readable}
 use Rattle.columns.proofs.Ways.{readable}
-use Rattle.interning.specs.Values.{Value}
-use Rattle.interning.specs.Merging.{Taken, nothing_taken, slot, slots_in, slots_from, input_at, value_of}
+use Rattle.interning.specs.Merging.{nothing_taken, slot, slots_in, slots_from, input_at, value_of}
 use Rattle.dictionary.specs.declared.piece.Piece.{Piece}
 use Rattle.dictionary.specs.Pieces.{seen, as_value, entry_at, taken_of, taken_all, PieceOk, no_piece, SlotIn}
 

@@ -5,7 +5,7 @@ use Rattle.std.specs.List.{range_with_len}
 use Rattle.records.specs.declared.Record.{Record}
 use Rattle.numbers.specs.Little.{number_at, not_negative}
 use Rattle.numbers.specs.Bits.{bit_bytes}
-use Rattle.format.specs.Meaning.{Kind, flat, bits, bytes, dictionary, list, structs, runs, other, kind_of, is_null, number, ends_of}
+use Rattle.format.specs.Meaning.{Kind, flat, bits, bytes, dictionary, list, structs, runs, other, kind_of, is_null, ends_of}
 use Rattle.format.specs.Rules.{all_of, every, zeros, total, last, rises, end_of, room, offset_rules, key_ok, one_child, no_child, kind_rules, validity_ok, record_rules}
 use Rattle.std.proofs.lemmas.Bool.{leb-true, eqb-true, eqb-false, eq-eqb, le-leb}
 use Rattle.format.proofs.Tests.{no_way, sub_true, both_true, all_of_lem, all_in, each_from, every_from, map-counting-same, climb}

@@ -2,10 +2,9 @@
 use Rattle.std.proofs.Common.{◌≡◌, ℕ, zero, suc, ◌+◌, ◌-◌, ◌<◌, ◌≤◌, Bool, true, false, cond, eqb, ltb, leb, List, [], ◌∷◌, ◌++◌, map, length, get_or, take, drop, sym, refl, ap, ◌∙◌, subst, ap₂, zero-add, arith}
 use Rattle.std.specs.List.{AllByRecursion}
 use Rattle.records.specs.declared.Record.{Record}
-use Rattle.format.specs.Rows.{first}
 use Rattle.format.specs.Trees.{Forest, end, node, records_of, preorder, tops, parse, first_tree, nothing, rec_at}
-use Rattle.format.specs.Meaning.{other, column_at}
-use Rattle.format.specs.Rules.{all_of, every, total, record_rules, trees_from, children_at, ruled_at, ok_at, root_rules, inner_ok, WellFormed}
+use Rattle.format.specs.Meaning.{column_at}
+use Rattle.format.specs.Rules.{all_of, total, record_rules, trees_from, children_at, ruled_at, ok_at, root_rules, inner_ok, WellFormed}
 use native.Mathlib.Decide.{dec_lt}
 use Rattle.std.proofs.lemmas.Bool.{leb-true, ltb-true, eqb-true, eq-eqb, lt-ltb, le-ltb, le-leb}
 use Rattle.std.proofs.lemmas.List.{drop_more, drop-drop, take-append-drop, append_assoc, length-append, length-drop, length-map, drop_at, get_or-drop, get_or-take, get_or-map, get_or_append_left}

@@ -3,9 +3,7 @@ use Rattle.std.proofs.Common.{◌≡◌, ℕ, suc, ◌+◌, ◌-◌, ◌*◌, �
 use Rattle.std.specs.List.{AllByRecursion}
 use Rattle.records.specs.declared.Record.{Record}
 use Rattle.numbers.specs.Bits.{bit_bytes}
-use Rattle.format.specs.Rows.{first}
-use Rattle.format.specs.Trees.{end}
-use Rattle.format.specs.Meaning.{Kind, flat, bits, bytes, dictionary, list, structs, runs, other, kind_of, is_null, number, ends_of, run_of, row}
+use Rattle.format.specs.Meaning.{Kind, flat, bits, bytes, dictionary, list, structs, runs, other, kind_of, is_null, number, ends_of, run_of}
 use Rattle.format.specs.Rules.{all_of, zeros, last, rises, end_of, room, offset_rules, one_child, kind_rules, record_rules}
 use Rattle.std.proofs.lemmas.Bool.{leb-true, ltb-true, eqb-true, eq-eqb}
 use Rattle.std.proofs.ByRecursion.{All-weaker}

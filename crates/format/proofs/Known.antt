@@ -2,8 +2,7 @@
 use Rattle.std.proofs.Common.{◌≡◌, ℕ, zero, suc, ◌+◌, ◌-◌, ◌*◌, ◌<◌, ◌≤◌, Bool, true, false, cond, eqb, leb, List, [], ◌∷◌, length, get_or, refl, arith}
 use Rattle.records.specs.declared.Record.{Record}
 use Rattle.numbers.specs.Bits.{bit_bytes}
-use Rattle.format.specs.Rows.{first}
-use Rattle.format.specs.Trees.{end, rec_at}
+use Rattle.format.specs.Trees.{rec_at}
 use Rattle.format.specs.Meaning.{Kind, flat, bits, bytes, dictionary, list, structs, runs, other, kind_of}
 use Rattle.format.specs.Rules.{all_of, zeros, total, end_of, room, offset_rules, one_child, kind_rules, validity_ok, record_rules, children_at, ruled_at, root_rules, inner_ok, WellFormed}
 use Rattle.std.proofs.lemmas.Bool.{leb-true, ltb-true, eqb-true}

@@ -1,5 +1,5 @@
 -- The number that the first bytes spell: what it is bounded by, and that it is that of the first bytes alone.
-use Rattle.std.proofs.Common.{◌≡◌, ℕ, zero, suc, ◌+◌, ◌*◌, ◌^◌, ◌<◌, ◌≤◌, List, get_or, take, refl, ap, ◌∙◌, pow-suc, add-one, arith, lit<, get_or-take}
+use Rattle.std.proofs.Common.{◌≡◌, ℕ, zero, suc, ◌+◌, ◌*◌, ◌^◌, ◌<◌, ◌≤◌, List, take, refl, ap, ◌∙◌, pow-suc, add-one, arith, lit<, get_or-take}
 use native.Mathlib.Nat.{pow-le-pow_right}
 use Rattle.hashes.specs.Hashes.{leading}
 

@@ -1,10 +1,9 @@
 -- What holds of interning and merging, for every sameness, every hash and all values.
-use Rattle.std.specs.Prelude.{◌≡◌, ℕ, ◌+◌, ◌/◌, ◌^◌, ◌<◌, ◌≤◌, Bool, true, false, List, [], reverse, length, take, Some, None, Option, slice_index, slice_index_or}
-use Rattle.records.specs.declared.Slot.{Slot}
+use Rattle.std.specs.Prelude.{◌≡◌, ℕ, ◌+◌, ◌/◌, ◌^◌, ◌<◌, ◌≤◌, Bool, true, false, List, [], reverse, length, take, Some, None, slice_index, slice_index_or}
 use Rattle.interning.specs.Values.{Value, Sameness, same_value}
 use Rattle.interning.specs.Buckets.{buckets_for, bucket_among}
 use Rattle.interning.specs.Interning.{is_new, numbers_of, entries_of, entries_after}
-use Rattle.interning.specs.Merging.{Taken, slots_of, input_at, value_of, is_used, used_slots, count_of_buckets, slot_bucket, chosen_slots, merged_entries, slot_keys, key_of}
+use Rattle.interning.specs.Merging.{Taken, input_at, value_of, used_slots, slot_bucket, chosen_slots, merged_entries, slot_keys, key_of}
 
 -- different values have different buckets, and values that are the same share one
 pub record Separates {V : Type 0} (same : V → V → Bool) (bucket : V → ℕ) (vs : List V) : Type 0 where

@@ -1,10 +1,9 @@
 -- A cell holds the row, and its bytes are the part of the byte memory at its place.
-use Rattle.std.proofs.Common.{◌≡◌, ℕ, ◌-◌, Bool, true, false, cond, leb, List, length, drop, Ok, Err, Result, sym, refl, ap, ◌∙◌, subst, arith}
+use Rattle.std.proofs.Common.{◌≡◌, ℕ, Bool, true, false, cond, leb, List, length, drop, Ok, Err, Result, sym, refl, ap, ◌∙◌, subst, arith}
 use Rattle.std.proofs.lemmas.Bool.{leb-false}
 use Rattle.numbers.specs.Puts.{part}
 use Rattle.numbers.proofs.Places.{length_part, part_front}
 use Rattle.format.specs.Trees.{rec_at}
-use Rattle.format.specs.Meaning.{row}
 use Rattle.format.specs.Rules.{first_broken}
 use Rattle.format.specs.Cells.{Found, absent, a_bit, bytes_at, leads, found, found_row, FoundIn}
 use Rattle.format.proofs.Cells.{found_right}

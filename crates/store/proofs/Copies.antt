@@ -1,4 +1,4 @@
-use Rattle.std.proofs.Common.{◌≡◌, ℕ, ◌+◌, ◌-◌, ◌≤◌, List, [], ◌∷◌, length, take, set, ap, ◌∙◌, arith}
+use Rattle.std.proofs.Common.{◌≡◌, ℕ, ◌+◌, ◌≤◌, List, [], ◌∷◌, length, take, set, ap, ◌∙◌, arith}
 use Rattle.numbers.specs.Puts.{put, part}
 use Rattle.numbers.proofs.Places.{put_more, part_same, part_front, take_put, length-put}
 use Rattle.numbers.proofs.Places.{set_put}

@@ -5,7 +5,7 @@ use Rattle.std.proofs.lemmas.Bool.{ltb-false}
 use Rattle.records.specs.declared.Record.{Record}
 use Rattle.numbers.specs.Puts.{put, next_place}
 use Rattle.format.specs.Trees.{rec_at}
-use Rattle.format.specs.Moves.{moved, sliced}
+use Rattle.format.specs.Moves.{sliced}
 use Rattle.format.specs.Rules.{first_broken}
 use Rattle.format.specs.Promises.{SameRows, Stretch}
 use Rattle.format.proofs.Moves.{still, brought_in, cut_out, same_here}

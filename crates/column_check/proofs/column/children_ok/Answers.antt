@@ -1,4 +1,4 @@
-use Rattle.std.proofs.Common.{◌-◌, sym, ◌∙◌, arith}
+use Rattle.std.proofs.Common.{sym, ◌∙◌, arith}
 use Rattle.column_check.proofs.Loops.{walk_more, walk_stop, walk_done}
 use Rattle.column_check.proofs.column.children_ok.Goals as goal
 

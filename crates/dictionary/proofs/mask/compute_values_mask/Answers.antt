@@ -1,6 +1,5 @@
 use Rattle.std.proofs.Common.{◌≡◌, ◌+◌, [], ◌∷◌, map, length, sym, ap, ◌∙◌}
 use Rattle.std.specs.List.{range_with_len}
-use Rattle.columns.specs.Held.{key_at}
 use Rattle.columns.proofs.Ways.{readable}
 use Rattle.dictionary.specs.Pieces.{keys_of}
 use Rattle.dictionary.specs.Tables.{marks, marked, mask_at}

@@ -1,4 +1,4 @@
-use Rattle.std.proofs.Common.{◌≡◌, ◌+◌, ◌≤◌, Bool, true, false, cond, ltb, length, get_or, take, filter, sym, ap, ◌∙◌, arith, rules}
+use Rattle.std.proofs.Common.{◌+◌, ◌≤◌, ltb, length, get_or, take, filter, sym, ap, ◌∙◌, arith, rules}
 use Rattle.std.proofs.lemmas.List.Filters.{length-filter_more}
 use Rattle.std.proofs.lemmas.List.{take_all}
 use Rattle.dictionary.proofs.Masks.{one_at_most}

@@ -1,4 +1,4 @@
-use Rattle.std.proofs.Common.{◌≡◌, ◌+◌, ◌*◌, ◌^◌, ◌<◌, ◌≤◌, arith, rules}
+use Rattle.std.proofs.Common.{arith}
 use Rattle.dictionary.proofs.Slots.{slots_turn_length, slots_none_length, entries_low}
 use Rattle.dictionary.proofs.mask.total_slots.Goals as goal
 

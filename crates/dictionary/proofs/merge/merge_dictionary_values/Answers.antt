@@ -1,4 +1,4 @@
-use Rattle.std.proofs.Common.{◌≡◌, ◌+◌, ◌^◌, ◌<◌, ◌≤◌, true, false, ltb, ◌++◌, length, take, drop, Ok, sym, refl, ap, ◌∙◌, subst, ap₂, le_refl, arith}
+use Rattle.std.proofs.Common.{◌≡◌, ◌+◌, ◌^◌, ◌<◌, ◌≤◌, true, false, ltb, ◌++◌, length, take, drop, Ok, sym, refl, ap, ◌∙◌, subst, ap₂, le_refl}
 use Rattle.std.proofs.lemmas.List.{length-take-le}
 use Rattle.interning.specs.Merging.{slots_of, used_slots, count_of_buckets, chosen_slots}
 use Rattle.interning.specs.Values.{same_value}

@@ -2,7 +2,7 @@ use Rattle.std.proofs.Common.{◌<◌, length, get_or, sym, ◌∙◌, arith}
 use Rattle.dictionary.specs.Pieces.{no_piece}
 use Rattle.dictionary.proofs.Slots.{piece_at}
 use Rattle.dictionary.proofs.Counts.{key_width}
-use Rattle.dictionary.proofs.Merges.{most_is, most_none}
+use Rattle.dictionary.proofs.Merges.{most_is}
 use Rattle.dictionary.proofs.merge.most_key.Goals as goal
 
 pub largest_of-requires : goal.largest_of-requires

@@ -1,4 +1,4 @@
-use Rattle.std.proofs.Common.{◌≡◌, ◌+◌, sym, ap, ◌∙◌}
+use Rattle.std.proofs.Common.{sym, ◌∙◌}
 use Rattle.dictionary.specs.Merges.{same_record}
 use Rattle.dictionary.proofs.Merges.{every_yes, every_no, every_end}
 use Rattle.dictionary.proofs.merge.same_entries.Goals as goal

@@ -1,4 +1,4 @@
-use Rattle.std.proofs.Common.{◌+◌, arith}
+use Rattle.std.proofs.Common.{arith}
 use Rattle.dictionary.proofs.Slots.{rows_low, total_more, total_none}
 use Rattle.dictionary.proofs.merge.total_rows.Goals as goal
 

@@ -1,4 +1,4 @@
-use Rattle.std.proofs.Common.{sym, ap, ◌∙◌, arith}
+use Rattle.std.proofs.Common.{ap, arith}
 use Rattle.numbers.specs.Little.{little}
 use Rattle.numbers.proofs.Numbers.{four_at}
 use Rattle.numbers.proofs.memory.read_four.Goals as goal

@@ -1,4 +1,4 @@
-use Rattle.std.proofs.Common.{◌≡◌, ◌-◌, ◌<◌, length, sym, div-one, arith}
+use Rattle.std.proofs.Common.{◌≡◌, ◌<◌, length, sym, div-one, arith}
 use Rattle.numbers.specs.Little.{bytes_of}
 use Rattle.std.proofs.lemmas.List.Edits.{paste_none, paste_more, paste_all}
 use Rattle.numbers.proofs.Numbers.{get_or-bytes_of, length-bytes_of, next_quotient}

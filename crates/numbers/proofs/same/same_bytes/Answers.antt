@@ -1,4 +1,3 @@
-use Rattle.std.proofs.Common.{◌≡◌, length, ap, arith}
 use Rattle.std.proofs.lemmas.Slice.Eq.{slice_eq-Decides}
 use Rattle.numbers.proofs.Parts.{decided, unlike}
 use Rattle.numbers.proofs.same.same_bytes.Goals as goal

@@ -1,5 +1,5 @@
 use Rattle.std.proofs.Common.{◌-◌, length, arith}
-use Rattle.numbers.proofs.Parts.{tail_decides, part_differs}
+use Rattle.numbers.proofs.Parts.{tail_decides}
 use Rattle.numbers.proofs.same.same_halves.Goals as goal
 
 pub returns-then-same_part : goal.returns-then-same_part

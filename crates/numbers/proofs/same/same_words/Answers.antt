@@ -1,4 +1,4 @@
-use Rattle.std.proofs.Common.{◌-◌, length, refl, arith}
+use Rattle.std.proofs.Common.{◌-◌, length, arith}
 use Rattle.numbers.proofs.Parts.{front_more, tail_decides, part_differs}
 use Rattle.numbers.proofs.same.same_words.Goals as goal
 

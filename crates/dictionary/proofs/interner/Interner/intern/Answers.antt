@@ -1,7 +1,6 @@
-use Rattle.std.proofs.Common.{◌≡◌, ◌<◌, length, sym, refl, ap, ◌∙◌, le_refl, lt_of_lt_of_le}
+use Rattle.std.proofs.Common.{length, refl, ap, ◌∙◌, le_refl, lt_of_lt_of_le}
 use Rattle.std.proofs.lemmas.List.{length-set}
-use Rattle.interning.specs.Merging.{slot_bucket, count_of_buckets}
-use Rattle.dictionary.specs.Pieces.{seen, taken_all}
+use Rattle.dictionary.specs.Pieces.{seen}
 use Rattle.dictionary.proofs.Interns.{bucket_is, bucket_low, held_slot, as_known, as_added, answer_low}
 use Rattle.dictionary.proofs.interner.Interner.intern.Goals as goal
 

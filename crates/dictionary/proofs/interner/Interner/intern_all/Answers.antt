@@ -1,7 +1,7 @@
-use Rattle.std.proofs.Common.{◌≡◌, ◌+◌, ◌<◌, ◌≤◌, [], length, sym, refl, ap, ◌∙◌, subst, arith, rules}
+use Rattle.std.proofs.Common.{[], length, sym, refl, ◌∙◌, rules}
 use Rattle.std.proofs.lemmas.List.{append-nil}
 use Rattle.interning.specs.Merging.{slots_of}
-use Rattle.dictionary.specs.Pieces.{taken, taken_all}
+use Rattle.dictionary.specs.Pieces.{taken}
 use Rattle.dictionary.specs.Tables.{so_far}
 use Rattle.dictionary.proofs.Slots.{slots_none}
 use Rattle.dictionary.proofs.Interns.{length-entries, stands_as}
