@@ -3,8 +3,11 @@
 
 usage: python3 tools/respell.py        at the top of the repository, once, right after the kit's own script
 
-Words become snake case, facts and records upper camel case. A lemma that would then have the name of its definition gets _lem.
-Names of functions in src/, text in quotes, and the names that Rattle gives goals and steps stay as they are.
+The table NAMES has each name as that script leaves it, and what it becomes: words in snake case, facts and records in upper camel case. A
+lemma that would then have the name of its definition gets _lem. It must not run twice: points_to and value_row are lemmas before, and
+definitions after.
+Files of specs/ and proofs/ are turned as a whole, but for the names that Rattle gives steps (with a dash, after a letter and a dot). Of
+files of src/ only imports of ghost names and clauses are turned, and no line with a quote.
 The crate check has the name of a library of the kit, so it becomes column_check.
 """
 
@@ -438,7 +441,7 @@ CRATE = ("check", "column_check")
 TOKEN = re.compile(r"[^\s(){}\[\];,.«»λ⌜⌝]+")
 
 
-def turned(text, plain):
+def turned(text):
     """The text with each of its words turned; a step of a proof (after 'c.' and the like) keeps its name."""
     def word(m):
         w = m.group(0)
@@ -458,7 +461,7 @@ def turned_source(text):
     out = []
     for line in text.split("\n"):
         if re.match(r"\s*(ghost |(requires|ensures)\b|.*\{ .*≡)", line) and '"' not in line:
-            line = turned(line, False)
+            line = turned(line)
         elif any(w in NAMES for w in TOKEN.findall(line)):
             print("left:", line.strip()[:150])
         out.append(line)
@@ -479,7 +482,7 @@ def main():
     open("crates.txt", "w").write(re.sub(r"(?<!\w)%s(?!\w)" % old, new, listed))
     for p in sorted(glob.glob("crates/*/specs/**/*.antt", recursive=True) + glob.glob("crates/*/proofs/**/*.antt", recursive=True)):
         t = open(p).read()
-        u = recrated(turned(t, True))
+        u = recrated(turned(t))
         if u != t:
             open(p, "w").write(u)
     for p in sorted(glob.glob("crates/*/src/**/*.rt", recursive=True)):

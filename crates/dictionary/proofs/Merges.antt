@@ -22,26 +22,26 @@ use Rattle.dictionary.proofs.Slots.{slots_total}
 use Rattle.dictionary.proofs.Masks.{set_used}
 use Rattle.dictionary.proofs.Counts.{shift_whole}
 
-module _ (hash : List ℕ → ℕ) (most : ℕ) (ts : List Taken) (keyPlaces bucketPlaces chosenPlaces : ℕ) where
-  pub no_keys : keyPlaces < length (slots_of ts) → Err Scratch ≡ merge_answer hash most ts keyPlaces bucketPlaces chosenPlaces
-  no_keys l = rw (lt-ltb keyPlaces (length (slots_of ts)) l)
+module _ (hash : List ℕ → ℕ) (most : ℕ) (ts : List Taken) (key_places bucket_places chosen_places : ℕ) where
+  pub no_keys : key_places < length (slots_of ts) → Err Scratch ≡ merge_answer hash most ts key_places bucket_places chosen_places
+  no_keys l = rw (lt-ltb key_places (length (slots_of ts)) l)
 
-  module _ (fits : length (slots_of ts) ≤ keyPlaces) where
-    pub no_buckets : bucketPlaces < count_of_buckets ts → Err Scratch ≡ merge_answer hash most ts keyPlaces bucketPlaces chosenPlaces
-    no_buckets l = rw (le-ltb keyPlaces (length (slots_of ts)) fits, lt-ltb bucketPlaces (count_of_buckets ts) l)
+  module _ (fits : length (slots_of ts) ≤ key_places) where
+    pub no_buckets : bucket_places < count_of_buckets ts → Err Scratch ≡ merge_answer hash most ts key_places bucket_places chosen_places
+    no_buckets l = rw (le-ltb key_places (length (slots_of ts)) fits, lt-ltb bucket_places (count_of_buckets ts) l)
 
-    module _ (wide : count_of_buckets ts ≤ bucketPlaces) where
-      pub no_chosen : chosenPlaces < length (used_slots ts) → Err Scratch ≡ merge_answer hash most ts keyPlaces bucketPlaces chosenPlaces
-      no_chosen l = rw (le-ltb keyPlaces (length (slots_of ts)) fits, le-ltb bucketPlaces (count_of_buckets ts) wide, lt-ltb chosenPlaces (length (used_slots ts)) l)
+    module _ (wide : count_of_buckets ts ≤ bucket_places) where
+      pub no_chosen : chosen_places < length (used_slots ts) → Err Scratch ≡ merge_answer hash most ts key_places bucket_places chosen_places
+      no_chosen l = rw (le-ltb key_places (length (slots_of ts)) fits, le-ltb bucket_places (count_of_buckets ts) wide, lt-ltb chosen_places (length (used_slots ts)) l)
 
-      module _ (room : length (used_slots ts) ≤ chosenPlaces) where
-        pub too_many : true ≡ ltb (most + 1) (length (chosen_slots same_value hash ts)) → Err Keys ≡ merge_answer hash most ts keyPlaces bucketPlaces chosenPlaces
+      module _ (room : length (used_slots ts) ≤ chosen_places) where
+        pub too_many : true ≡ ltb (most + 1) (length (chosen_slots same_value hash ts)) → Err Keys ≡ merge_answer hash most ts key_places bucket_places chosen_places
         too_many t =
-            rw (le-ltb keyPlaces (length (slots_of ts)) fits, le-ltb bucketPlaces (count_of_buckets ts) wide, le-ltb chosenPlaces (length (used_slots ts)) room, ← t)
+            rw (le-ltb key_places (length (slots_of ts)) fits, le-ltb bucket_places (count_of_buckets ts) wide, le-ltb chosen_places (length (used_slots ts)) room, ← t)
 
-        pub made : false ≡ ltb (most + 1) (length (chosen_slots same_value hash ts)) → Ok (length (chosen_slots same_value hash ts)) ≡ merge_answer hash most ts keyPlaces bucketPlaces chosenPlaces
+        pub made : false ≡ ltb (most + 1) (length (chosen_slots same_value hash ts)) → Ok (length (chosen_slots same_value hash ts)) ≡ merge_answer hash most ts key_places bucket_places chosen_places
         made t =
-            rw (le-ltb keyPlaces (length (slots_of ts)) fits, le-ltb bucketPlaces (count_of_buckets ts) wide, le-ltb chosenPlaces (length (used_slots ts)) room, ← t)
+            rw (le-ltb key_places (length (slots_of ts)) fits, le-ltb bucket_places (count_of_buckets ts) wide, le-ltb chosen_places (length (used_slots ts)) room, ← t)
 
 -- what holds of every merge by equality of bytes
 pub all_merged : (hash : List ℕ → ℕ) (ts : List Taken) → Merged same_value hash ts

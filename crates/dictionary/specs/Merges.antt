@@ -20,10 +20,10 @@ most_key (p ∷ ps) = largest (p.keys.size == 1) p.keys.width
 -- the answer, where the tables have these many places: 'scratch' where the key table has fewer than T, the bucket table fewer than B or
 -- the chosen table fewer than U; 'keys' where there are more entries than the largest key + 1; else the number of entries
 abbrev pub merge_answer : (List ℕ → ℕ) → ℕ → List Taken → ℕ → ℕ → ℕ → Result ℕ MergeFault
-merge_answer hash most ts keyPlaces bucketPlaces chosenPlaces =
-    cond (nat_lt keyPlaces (length (slots_of ts))) (Err Scratch)
-    (cond (nat_lt bucketPlaces (count_of_buckets ts)) (Err Scratch)
-    (cond (nat_lt chosenPlaces (length (used_slots ts))) (Err Scratch)
+merge_answer hash most ts key_places bucket_places chosen_places =
+    cond (nat_lt key_places (length (slots_of ts))) (Err Scratch)
+    (cond (nat_lt bucket_places (count_of_buckets ts)) (Err Scratch)
+    (cond (nat_lt chosen_places (length (used_slots ts))) (Err Scratch)
     (cond (nat_lt (most + 1) (length (chosen_slots same_value hash ts))) (Err Keys)
     (Ok (length (chosen_slots same_value hash ts))))))
 
@@ -34,8 +34,8 @@ MergeLeaves (Ok n) hash ts keys chosen =
 MergeLeaves (Err f) hash ts keys chosen = Unit {0}
 
 -- THE CONTRACT of a merge that answers r; keys and chosen are those tables after it
-pub record MergeContract (r : Result ℕ MergeFault) (hash : List ℕ → ℕ) (most : ℕ) (ts : List Taken) (bucketPlaces : ℕ) (keys : List ℕ) (chosen : List Slot) : Type 0 where
-  pub answer : r ≡ merge_answer hash most ts (length keys) bucketPlaces (length chosen)
+pub record MergeContract (r : Result ℕ MergeFault) (hash : List ℕ → ℕ) (most : ℕ) (ts : List Taken) (bucket_places : ℕ) (keys : List ℕ) (chosen : List Slot) : Type 0 where
+  pub answer : r ≡ merge_answer hash most ts (length keys) bucket_places (length chosen)
   pub leaves : MergeLeaves r hash ts keys chosen
   -- what this means: rows keep their values, entries are met, few and apart
   pub merged : Merged same_value hash ts

@@ -38,6 +38,6 @@ as_merge (Err f) = Err (fault.Merge f)
 
 -- where there are pieces, their merge settles the answer and the tables
 abbrev pub MergesPieces : Result (List Piece) PiecesFault → Result ℕ PiecesFault → (List ℕ → ℕ) → List ℕ → ℕ → List ℕ → List Slot → Type 0
-MergesPieces (Err f) r hash bs bucketPlaces keys chosen = r ≡ Err f
-MergesPieces (Ok ps) r hash bs bucketPlaces keys chosen =
-    (m : Result ℕ MergeFault) × (r ≡ as_merge m) × MergeContract m hash (most_key ps) (taken_all bs ps) bucketPlaces keys chosen
+MergesPieces (Err f) r hash bs bucket_places keys chosen = r ≡ Err f
+MergesPieces (Ok ps) r hash bs bucket_places keys chosen =
+    (m : Result ℕ MergeFault) × (r ≡ as_merge m) × MergeContract m hash (most_key ps) (taken_all bs ps) bucket_places keys chosen

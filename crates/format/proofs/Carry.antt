@@ -8,7 +8,7 @@ use Rattle.numbers.specs.Bits.{bit_bytes}
 use Rattle.format.specs.Meaning.{Kind, flat, bits, bytes, dictionary, list, structs, runs, other, kind_of, is_null, ends_of}
 use Rattle.format.specs.Rules.{all_of, every, zeros, total, last, rises, end_of, room, offset_rules, key_ok, one_child, no_child, kind_rules, validity_ok, record_rules}
 use Rattle.std.proofs.lemmas.Bool.{leb-true, eqb-true, eqb-false, eq-eqb, le-leb}
-use Rattle.format.proofs.Tests.{no_way, sub_true, both_true, all_of_lem, all_in, each_from, every_from, map-counting-same, climb}
+use Rattle.format.proofs.Tests.{no_way, sub_true, both_true, all_of_lem, all_in, each_from, every_from, map-range_with_len, climb}
 use Rattle.format.proofs.Facts.{Is, kind_is}
 
 -- number j of e numbers that fit
@@ -114,7 +114,7 @@ module _ (bs : List ℕ) (r : Record) (cs : List ℕ) (st n v a b : ℕ) (c : Ca
       let up : (j : ℕ) → r.start ≤ j → j < e → O j ≤ O (j + 1) = λ j x y. leb-true _ _ (each_from _ r.start r.length t.1.1.0 j x y) in
       let z : st + n + (e - (st + n)) ≡ e = omega (arith, c.ends) in
       let top : O (st + n) ≤ O e = rw z at (climb O r.start e up (st + n) (e - (st + n)) (omega (arith, c.starts)) (omega (arith, c.ends))) in
-      let at-end : number_at cs a r.width (st + n) ≡ O (st + n) = read (e + 1) (st + n) (omega (arith, c.ends)) k big in
+      let at_end : number_at cs a r.width (st + n) ≡ O (st + n) = read (e + 1) (st + n) (omega (arith, c.ends)) k big in
       let few : O e ≤ most = leb-true _ _ t.1.1.1.0 in
       all_in (offset_rules cs s most') (
         le-leb _ _ (less (e + 1) (st + n + 1) (omega (arith, c.ends)) k big),
@@ -127,7 +127,7 @@ module _ (bs : List ℕ) (r : Record) (cs : List ℕ) (st n v a b : ℕ) (c : Ca
                 let p = read (e + 1) j (omega (arith, c.ends)) k big in
                 let q = read (e + 1) (j + 1) (omega (arith, c.ends)) k big in
                 le-leb _ _ (rw (p, q) (up j (omega (arith, c.starts)) (omega (arith, c.ends))))),
-            (le-leb _ _ (rw at-end (omega arith)), tt),
+            (le-leb _ _ (rw at_end (omega arith)), tt),
           ),
         ),
       )
@@ -204,7 +204,7 @@ module _ (bs : List ℕ) (r : Record) (cs : List ℕ) (st n v a b : ℕ) (c : Ca
     carry_kind runs i h =
         let t = all_of_lem (kind_rules bs r ks runs) h in
         let big : r.a + r.count * r.width ≤ length bs = leb-true _ _ t.1.0 in
-        let es : ends_of cs s ≡ ends_of bs r = map-counting-same _ _ 0 0 r.count (λ k l. read r.count (0 + k) (omega arith) (not8 9 i refl) big) in
+        let es : ends_of cs s ≡ ends_of bs r = map-range_with_len _ _ 0 0 r.count (λ k l. read r.count (0 + k) (omega arith) (not8 9 i refl) big) in
         all_in (kind_rules cs s ls runs) (
           t.0,
           (

@@ -16,7 +16,7 @@ use Rattle.std.proofs.lemmas.List.{append_assoc, append-nil, length-append, leng
 use Rattle.format.specs.Moves.{window, moved, sliced}
 use Rattle.format.specs.Types.{records_at}
 use Rattle.format.specs.Promises.{SameRows, Stretch}
-use Rattle.format.proofs.Tests.{no_way, map-counting-same}
+use Rattle.format.proofs.Tests.{no_way, map-range_with_len}
 use Rattle.format.proofs.Facts.{Is, kind_is, run_below, Says, facts, validity}
 use Rattle.format.proofs.Checked.{head_at, Kept, kept_spanned, checked, tree_well, rootless_at, rootless_like, is_root, few_records, column_is, column_tree}
 use Rattle.format.proofs.Carry.{in_room, placed, Carries, SameKids, same_kids, carry}
@@ -133,13 +133,13 @@ module _ (d : ℕ) (M N : List ℕ) (h : Holds d M N) where
         let read = λ (x : ℕ). λ (l : x < end_of r + 1). numbers_held (other_kind 5 i refl) x (in_room r.a r.width (end_of r + 1) x (length M) o.fits l) in
         ap (λ x. listed (rows x))
         (ap₂ (λ x y. map (λ k. first (new k)) (range_with_len x (y - x))) (read j (omega arith)) (read (j + 1) (omega arith))
-        ∙ map-counting-same (λ k. first (new k)) (λ k. first (old k)) (number M r j) (number M r j) (number M r (j + 1) - number M r j)
+        ∙ map-range_with_len (λ k. first (new k)) (λ k. first (old k)) (number M r j) (number M r j) (number M r (j + 1) - number M r j)
         (λ k l. ap first (e (number M r j + k)
         (subst (AllByRecursion (λ x. number M r j + k < x.length)) (sym s.alone) (omega (arith, o.below (j + 1) (omega arith) (omega arith)), tt)))))
     value_held structs i ks s new old e j a b v = ap (λ x. struct (rows x)) (e j (All-weaker _ _ (λ x l. omega arith) ks s))
     value_held runs i ks s new old e j a b v =
         let ends : ends_of N (moved d r) ≡ ends_of M r =
-        map-counting-same _ _ 0 0 r.count (λ k l. numbers_held (other_kind 9 i refl) (0 + k) (in_room r.a r.width r.count (0 + k) (length M) s.0 (omega arith))) in
+        map-range_with_len _ _ 0 0 r.count (λ k l. numbers_held (other_kind 9 i refl) (0 + k) (in_room r.a r.width r.count (0 + k) (length M) s.0 (omega arith))) in
         let c = s.3 in
         let t = run_below 0 j (ends_of M r) s.1 (omega arith) (omega (arith, s.2)) in
         let n = length-map-range_with_len (number M r) 0 r.count in

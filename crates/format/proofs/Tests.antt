@@ -65,12 +65,12 @@ pub passed : (b : Bool) (x : Option ℕ) → cond b x (Some 0) ≡ None → (b �
 passed true x h = (refl, h)
 passed false x h = let z : ◌≡◌ {A = ℕ} 0 1 = cc in absurd (omega arith)
 
-pub map-counting-same : {A : Type 0} (f g : ℕ → A) (a b n : ℕ) → ((k : ℕ) → k < n → f (a + k) ≡ g (b + k))
+pub map-range_with_len : {A : Type 0} (f g : ℕ → A) (a b n : ℕ) → ((k : ℕ) → k < n → f (a + k) ≡ g (b + k))
     → map f (range_with_len a n) ≡ map g (range_with_len b n)
-map-counting-same f g a b zero h = refl
-map-counting-same f g a b (suc n) h =
+map-range_with_len f g a b zero h = refl
+map-range_with_len f g a b (suc n) h =
     let e : f a ≡ g b = rw (add-zero, add-zero) at (h 0 (omega arith)) in
-    let t = map-counting-same f g (a + 1) (b + 1) n (λ k l. shift k (h (k + 1) (omega arith))) in
+    let t = map-range_with_len f g (a + 1) (b + 1) n (λ k l. shift k (h (k + 1) (omega arith))) in
     cc
   where
     shift : (k : ℕ) → f (a + (k + 1)) ≡ g (b + (k + 1)) → f (a + 1 + k) ≡ g (b + 1 + k)

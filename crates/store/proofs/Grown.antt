@@ -15,8 +15,8 @@ use Rattle.store.specs.Calls.{Told, made, refuse, told, or_broken, Leaves, slice
 use Rattle.store.specs.Promises.{Stays, SliceHasRows, AdmitHasRows, SliceContract, AdmitContract}
 
 -- what lies below a mark that moved behind what was written
-pub take-put-all : {X : Type 0} (at : ℕ) (s d : List X) → at ≤ length d → take (at + length s) (put at s d) ≡ take at d ++ s
-take-put-all at s d l =
+pub take-put_all : {X : Type 0} (at : ℕ) (s d : List X) → at ≤ length d → take (at + length s) (put at s d) ≡ take at d ++ s
+take-put_all at s d l =
     let long : length (take at d ++ s) ≡ at + length s = rw (length-append, length-take-le at d l) refl in
     ap (take (at + length s)) (sym (append_assoc (take at d) s (drop (at + length s) d))) ∙ take_at (take at d ++ s) (drop (at + length s) d) (at + length s) long
 
@@ -34,10 +34,10 @@ module _ (s : Store) (whole : torn s ≡ false) where
       go false e false f h = (ltb-false _ _ e, ltb-false _ _ f)
 
   pub standing_grown : (rs : List Record) (bs : List ℕ) → standing (grown s rs bs) ≡ standing s ++ rs
-  standing_grown rs bs = take-put-all s.marks.records rs s.records marks_in.0
+  standing_grown rs bs = take-put_all s.marks.records rs s.records marks_in.0
 
   pub written_grown : (rs : List Record) (bs : List ℕ) → written (grown s rs bs) ≡ written s ++ bs
-  written_grown rs bs = take-put-all s.marks.bytes bs s.bytes marks_in.1
+  written_grown rs bs = take-put_all s.marks.bytes bs s.bytes marks_in.1
 
   pub long_standing : length (standing s) ≡ s.marks.records
   long_standing = length-take-le s.marks.records s.records marks_in.0

@@ -15,6 +15,6 @@ loop-i-preserved g c =
 pub returns : goal.returns
 returns g c =
     let long = length_part c.args.memory.now c.args.from c.args.n (omega arith) in
-    let at-end : c.loop-i.i ≡ c.args.n = omega arith in
+    let at_end : c.loop-i.i ≡ c.args.n = omega arith in
     let all = paste_all c.args.memory.now c.args.at (part c.args.memory.now c.args.from c.args.n) c.args.n (sym long) in
     cc

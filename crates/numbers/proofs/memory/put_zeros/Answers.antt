@@ -15,6 +15,6 @@ loop-i-preserved c =
 pub returns : goal.returns
 returns c =
     let long = length-replicate {A = ℕ} c.args.n 0 in
-    let at-end : c.loop-i.i ≡ c.args.n = omega arith in
+    let at_end : c.loop-i.i ≡ c.args.n = omega arith in
     let all = paste_all c.args.bytes.now c.args.at (replicate c.args.n 0) c.args.n (sym long) in
     cc

@@ -19,6 +19,6 @@ loop-i-preserved c =
 pub returns : goal.returns
 returns c =
     let len = length-bytes_of c.args.width c.args.n in
-    let at-end : c.loop-i.i ≡ c.args.width = omega arith in
+    let at_end : c.loop-i.i ≡ c.args.width = omega arith in
     let all = paste_all c.args.bytes.now c.args.at (bytes_of c.args.width c.args.n) c.args.width (sym len) in
     cc

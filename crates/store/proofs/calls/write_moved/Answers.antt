@@ -23,6 +23,6 @@ loop-i-preserved c =
 pub returns : goal.returns
 returns c =
     let long = length-map c.args.column.now (moved c.args.d) in
-    let at-end : c.loop-i.i ≡ length c.args.column.now = omega arith in
+    let at_end : c.loop-i.i ≡ length c.args.column.now = omega arith in
     let all = paste_all c.args.records.now c.args.at (map (moved c.args.d) c.args.column.now) (length c.args.column.now) (sym long) in
     cc
