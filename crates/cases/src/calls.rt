@@ -1,5 +1,4 @@
 // The calls: lists of steps, each on a store that begins empty.
-use super::case::settle;
 use super::change::Change::{Byte, Set};
 use super::change::Field;
 use super::layout::{
@@ -7,6 +6,7 @@ use super::layout::{
 };
 use super::memory::Call::{Admit, Bytes, Cell, Lend, Marks, Slice, Spoil};
 use super::memory::{Before, Call, Memory};
+use super::report::Report;
 use anyhow::anyhow;
 use records::Record;
 
@@ -18,7 +18,7 @@ struct Step {
 }
 
 // Memory of 6 records and 64 bytes.
-static ADMITS: [Step; 25] = [
+static ADMITS: &[Step] = &[
     Step {
         name: "admit 13 bytes",
         call: Admit(
@@ -176,7 +176,7 @@ static ADMITS: [Step; 25] = [
 ];
 
 // Memory of 8 records and 64 bytes.
-static MORE_ADMITS: [Step; 9] = [
+static MORE_ADMITS: &[Step] = &[
     // the second record is no part of the column, and its bytes come in all the same
     Step {
         name: "admit the first of two columns",
@@ -241,7 +241,7 @@ static MORE_ADMITS: [Step; 9] = [
 ];
 
 // Memory of 4 records and 13 bytes: the next multiple of 8 lies beyond the end.
-static ODD_MEMORY: [Step; 5] = [
+static ODD_MEMORY: &[Step] = &[
     Step {
         name: "admit to the last of 13 bytes",
         call: Admit(
@@ -277,7 +277,7 @@ static ODD_MEMORY: [Step; 5] = [
 ];
 
 // Memory of 15 records and 64 bytes. The keys are 1, 0, 1 at bytes 0 to 2; the entries are ab, cd, with offsets at 3 and letters at 15.
-static SLICES: [Step; 29] = [
+static SLICES: &[Step] = &[
     Step {
         name: "admit keys for slices",
         call: Admit(
@@ -435,7 +435,7 @@ static SLICES: [Step; 29] = [
 ];
 
 // Memory of 16 records and 128 bytes.
-static VALUES: [Step; 27] = [
+static VALUES: &[Step] = &[
     // a bitmap at 0, values from 1 on
     Step {
         name: "admit flat with nulls",
@@ -609,7 +609,7 @@ static VALUES: [Step; 27] = [
 ];
 
 // Memory of 24 records and 128 bytes.
-static LEADS: [Step; 27] = [
+static LEADS: &[Step] = &[
     // bitmap at 0, keys 1, 0, 1, 0 at 1; the entries' bitmap at 5, offsets at 6, letters at 18: entry 1 is null
     Step {
         name: "admit keys over text with nulls",
@@ -837,7 +837,7 @@ static LEADS: [Step; 27] = [
 ];
 
 // Memory of 16 records and 64 bytes.
-static NO_VALUES: [Step; 15] = [
+static NO_VALUES: &[Step] = &[
     Step {
         name: "admit a list with nulls",
         call: Admit(
@@ -936,7 +936,7 @@ static NO_VALUES: [Step; 15] = [
 ];
 
 // Memory of 4 records and 40 bytes. Marks 3 and 28.
-static FEWER_RECORDS: [Step; 10] = [
+static FEWER_RECORDS: &[Step] = &[
     Step {
         name: "admit keys for torn memory",
         call: Admit(
@@ -998,7 +998,7 @@ static FEWER_RECORDS: [Step; 10] = [
     },
 ];
 
-static FEWER_BYTES: [Step; 8] = [
+static FEWER_BYTES: &[Step] = &[
     Step {
         name: "admit flat for torn bytes",
         call: Admit(&[Record { length: 1, ..FLAT }], &[]),
@@ -1042,7 +1042,7 @@ static FEWER_BYTES: [Step; 8] = [
 ];
 
 // A column that the caller has overwritten. Memory of 4 records and 40 bytes.
-static OVERWRITTEN: [Step; 8] = [
+static OVERWRITTEN: &[Step] = &[
     Step {
         name: "admit keys to be spoiled",
         call: Admit(
@@ -1097,10 +1097,7 @@ static OVERWRITTEN: [Step; 8] = [
 
 // One of the calls of the store.
 fn is_store_call(call: Call) -> bool {
-    match call {
-        Admit(..) | Slice(..) | Cell(..) => true,
-        _ => false,
-    }
+    matches!(call, Admit(..) | Slice(..) | Cell(..))
 }
 
 // A call writes between the old marks and the new; refused, it moves neither mark.
@@ -1108,44 +1105,43 @@ fn keeps_rest(memory: &Memory, before: &Before, answer: &str) -> bool {
     memory.keeps(before) && (!answer.starts_with("refused") || memory.has_marks_of(before))
 }
 
-fn try_step(rt: &HostRuntime, memory: &mut Memory, step: Step) -> anyhow::Result<()> {
-    let before = memory.copied(rt.alloc())?;
-    let answer = memory.call(rt.alloc(), step.call)?;
+fn try_step(report: &mut Report<'_>, memory: &mut Memory, step: Step) -> anyhow::Result<()> {
+    let before = memory.copied()?;
+    let answer = memory.call(step.call)?;
     if is_store_call(step.call) && !keeps_rest(memory, &before, answer.as_str()) {
         let name = step.name;
-        return Err(anyhow!(format!(in rt.alloc(); "{name}: memory has changed elsewhere")?));
+        return Err(anyhow!(format!(in report.heap(); "{name}: memory has changed elsewhere")?));
     }
-    settle(rt, step.name, answer.as_str(), step.expected)
+    report.settle(step.name, answer.as_str(), step.expected)
 }
 
 fn run_steps(
-    rt: &HostRuntime,
+    report: &mut Report<'_>,
     records: usize,
     bytes: usize,
     steps: &[Step],
-) -> anyhow::Result<usize> {
-    let mut memory = Memory::new(rt.alloc(), records, bytes)?;
+) -> anyhow::Result<()> {
+    let mut memory = Memory::new(report.heap(), records, bytes)?;
     for step in steps {
-        try_step(rt, &mut memory, *step)?;
+        try_step(report, &mut memory, *step)?;
     }
-    Ok(steps.len())
+    Ok(())
 }
 
-pub fn run(rt: &HostRuntime) -> anyhow::Result<usize> {
-    let mut n = 0usize;
+pub fn run(report: &mut Report<'_>) -> anyhow::Result<()> {
     for (records, bytes, steps) in [
-        (6, 64, &ADMITS[..]),
-        (8, 64, &MORE_ADMITS[..]),
-        (4, 13, &ODD_MEMORY[..]),
-        (15, 64, &SLICES[..]),
-        (16, 128, &VALUES[..]),
-        (24, 128, &LEADS[..]),
-        (16, 64, &NO_VALUES[..]),
-        (4, 40, &FEWER_RECORDS[..]),
-        (4, 40, &FEWER_BYTES[..]),
-        (4, 40, &OVERWRITTEN[..]),
+        (6, 64, ADMITS),
+        (8, 64, MORE_ADMITS),
+        (4, 13, ODD_MEMORY),
+        (15, 64, SLICES),
+        (16, 128, VALUES),
+        (24, 128, LEADS),
+        (16, 64, NO_VALUES),
+        (4, 40, FEWER_RECORDS),
+        (4, 40, FEWER_BYTES),
+        (4, 40, OVERWRITTEN),
     ] {
-        n = n.wrapping_add(run_steps(rt, records, bytes, steps)?);
+        run_steps(report, records, bytes, steps)?;
     }
-    Ok(n)
+    Ok(())
 }

@@ -1,9 +1,9 @@
 // Changes to a column that keeps every rule.
 use super::layout::Column;
-use anyhow::anyhow;
+use anyhow::Context;
 use records::Record;
 
-#[derive(Clone, Copy)]
+#[derive(Clone, Copy, Debug, PartialEq, Eq)]
 pub enum Field {
     Root,
     Kind,
@@ -32,7 +32,8 @@ pub enum Change {
     Records(usize),
 }
 
-pub fn with(r: Record, field: Field, value: u64) -> Record {
+// By name: a number of the field would do the same in fewer lines, but only as long as `Field` has the order of `Record`.
+fn with(r: Record, field: Field, value: u64) -> Record {
     match field {
         Field::Root => Record { root: value, ..r },
         Field::Kind => Record { kind: value, ..r },
@@ -56,23 +57,15 @@ pub fn set_field(
     field: Field,
     value: u64,
 ) -> anyhow::Result<()> {
-    match records.get_mut(i) {
-        Some(r) => {
-            *r = with(*r, field, value);
-            Ok(())
-        }
-        None => Err(anyhow!("a change names no record")),
-    }
+    let r = records.get_mut(i).context("a change names no record")?;
+    *r = with(*r, field, value);
+    Ok(())
 }
 
 fn set_byte(bytes: &mut Vec<u8>, i: usize, value: u8) -> anyhow::Result<()> {
-    match bytes.get_mut(i) {
-        Some(byte) => {
-            *byte = value;
-            Ok(())
-        }
-        None => Err(anyhow!("a change names no byte")),
-    }
+    let byte = bytes.get_mut(i).context("a change names no byte")?;
+    *byte = value;
+    Ok(())
 }
 
 impl Column {

@@ -1,14 +1,14 @@
 // Names by keys: the rows are ice, null, oak, ice. The buffers begin at multiples of 8.
-use super::case::try_column;
 use super::change::Change::{Byte, Bytes, Set};
 use super::change::{Change, Field};
 use super::layout::{Column, NOTHING};
-use records::Record;
+use super::report::Report;
+use records::{Kind, Record};
 
-static RECORDS: [Record; 2] = [
+static RECORDS: &[Record] = &[
     Record {
         root: 1,
-        kind: 4,
+        kind: Kind::Dictionary as u64,
         width: 1,
         size: 1,
         span: 2,
@@ -18,7 +18,7 @@ static RECORDS: [Record; 2] = [
         ..NOTHING
     },
     Record {
-        kind: 3,
+        kind: Kind::Bytes as u64,
         width: 4,
         span: 1,
         length: 2,
@@ -29,7 +29,7 @@ static RECORDS: [Record; 2] = [
     },
 ];
 
-static BYTES: [u8; 38] = [
+static BYTES: &[u8] = &[
     0x0d, 0, 0, 0, 0, 0, 0, 0, 0, 0, 1, 0, 0, 0, 0, 0, 0, 0, 0, 0, 3, 0, 0, 0, 6, 0, 0, 0, 0, 0, 0,
     0, 0x69, 0x63, 0x65, 0x6f, 0x61, 0x6b,
 ];
@@ -41,7 +41,7 @@ struct Variant {
     expected: Option<u64>,
 }
 
-static VARIANTS: [Variant; 12] = [
+static VARIANTS: &[Variant] = &[
     Variant {
         name: "names",
         changes: &[],
@@ -104,18 +104,18 @@ static VARIANTS: [Variant; 12] = [
     },
 ];
 
-fn try_variant(rt: &HostRuntime, variant: Variant) -> anyhow::Result<()> {
+fn try_variant(report: &mut Report<'_>, variant: Variant) -> anyhow::Result<()> {
     let mut column = Column {
-        records: RECORDS.to_vec(rt.alloc())?,
-        bytes: BYTES.to_vec(rt.alloc())?,
+        records: RECORDS.to_vec(report.heap())?,
+        bytes: BYTES.to_vec(report.heap())?,
     };
     column.change_all(variant.changes)?;
-    try_column(rt, variant.name, &column, 0, variant.expected)
+    report.try_column(variant.name, &column, 0, variant.expected)
 }
 
-pub fn run(rt: &HostRuntime) -> anyhow::Result<usize> {
-    for variant in VARIANTS.iter() {
-        try_variant(rt, *variant)?;
+pub fn run(report: &mut Report<'_>) -> anyhow::Result<()> {
+    for variant in VARIANTS {
+        try_variant(report, *variant)?;
     }
-    Ok(VARIANTS.len())
+    Ok(())
 }

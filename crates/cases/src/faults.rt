@@ -1,6 +1,7 @@
 // The number, the input and the record of each fault. What a fault does not carry is 0.
-use super::case::settle;
-use store::{Fault, input, number, record};
+use super::report::Report;
+use std::alloc::{AllocError, Global};
+use store::Fault;
 
 #[derive(Clone, Copy)]
 struct Line {
@@ -9,7 +10,7 @@ struct Line {
     expected: &'static str,
 }
 
-static LINES: [Line; 16] = [
+static LINES: &[Line] = &[
     Line {
         name: "torn",
         fault: Fault::Torn,
@@ -98,17 +99,22 @@ static LINES: [Line; 16] = [
     },
 ];
 
-fn try_line(rt: &HostRuntime, line: Line) -> anyhow::Result<()> {
-    let n = number(line.fault);
-    let i = input(line.fault);
-    let r = record(line.fault);
-    let answer = format!(in rt.alloc(); "{n} input {i} record {r}")?;
-    settle(rt, line.name, answer.as_str(), line.expected)
+// The number, the input and the record.
+pub fn numbers(heap: Global, fault: Fault) -> Result<String, AllocError> {
+    let n = fault.number();
+    let i = fault.input();
+    let r = fault.record();
+    format!(in heap; "{n} input {i} record {r}")
 }
 
-pub fn run(rt: &HostRuntime) -> anyhow::Result<usize> {
-    for line in LINES.iter() {
-        try_line(rt, *line)?;
+fn try_line(report: &mut Report<'_>, line: Line) -> anyhow::Result<()> {
+    let answer = numbers(report.heap(), line.fault)?;
+    report.settle(line.name, answer.as_str(), line.expected)
+}
+
+pub fn run(report: &mut Report<'_>) -> anyhow::Result<()> {
+    for line in LINES {
+        try_line(report, *line)?;
     }
-    Ok(LINES.len())
+    Ok(())
 }

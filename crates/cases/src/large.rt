@@ -2,9 +2,10 @@
 // record that has it is at fault; but a span below the first record counts at the parent.
 use super::change::{Field, set_field};
 use super::layout::{BITS, FLAT, INNER_FLAT, INNER_TEXT, KEYS, LIST, RUNS, STRUCT, TEXT, lay};
+use super::report::{Report, first_broken, verdict};
 use anyhow::anyhow;
-use column_check::first_broken;
 use records::Record;
+use std::alloc::Global;
 
 #[derive(Clone, Copy)]
 struct Target {
@@ -17,7 +18,7 @@ struct Target {
     own: u64,
 }
 
-static TARGETS: [Target; 14] = [
+static TARGETS: &[Target] = &[
     Target {
         name: "flat",
         records: &[FLAT],
@@ -138,7 +139,7 @@ static TARGETS: [Target; 14] = [
     },
 ];
 
-static FIELDS: [(Field, &'static str); 13] = [
+static FIELDS: &[(Field, &'static str)] = &[
     (Field::Root, "root"),
     (Field::Kind, "kind"),
     (Field::Width, "width"),
@@ -154,58 +155,50 @@ static FIELDS: [(Field, &'static str); 13] = [
     (Field::Count, "count"),
 ];
 
-static NUMBERS: [u64; 3] = [1 << 32, 1 << 63, u64::MAX];
+static NUMBERS: &[u64] = &[1 << 32, 1 << 63, u64::MAX];
 
-fn broken(
-    rt: &HostRuntime,
-    target: Target,
-    field: Field,
-    number: u64,
-) -> anyhow::Result<Option<u64>> {
-    let mut column = lay(rt.alloc(), target.records)?;
-    set_field(&mut column.records, target.at, field, number)?;
-    Ok(first_broken(column.records.as_slice(), column.bytes.as_slice(), 0))
+impl Target {
+    fn fault(self, field: Field) -> u64 {
+        match field {
+            Field::Span => self.span,
+            _ => self.own,
+        }
+    }
 }
 
-fn fault(target: Target, field: Field) -> u64 {
-    match field {
-        Field::Span => target.span,
-        _ => target.own,
-    }
+fn broken(heap: Global, target: Target, field: Field, number: u64) -> anyhow::Result<Option<u64>> {
+    let mut column = lay(heap, target.records)?;
+    set_field(&mut column.records, target.at, field, number)?;
+    Ok(first_broken(&column, 0))
 }
 
 // One case: the answer is the same for all three numbers.
 fn try_field(
-    rt: &HostRuntime,
+    report: &mut Report<'_>,
     target: Target,
     field: Field,
-    label: &'static str,
+    label: &str,
 ) -> anyhow::Result<()> {
+    let heap = report.heap();
     let column = target.name;
-    let wanted = fault(target, field);
+    let wanted = target.fault(field);
     for number in NUMBERS {
-        let answer = broken(rt, target, field, number)?;
+        let answer = broken(heap, target, field, *number)?;
         if answer != Some(wanted) {
-            return Err(anyhow!(format!(in rt.alloc();
+            return Err(anyhow!(format!(in heap;
                 "{column}, {label} {number}: {answer:?}, and not record {wanted}"
             )?));
         }
     }
-    println!(rt; "ok {column}, {label} 2^32, 2^63, 2^64 - 1: record {wanted}")?;
+    let name = format!(in heap; "{column}, {label} 2^32, 2^63, 2^64 - 1")?;
+    Ok(report.pass(name.as_str(), verdict(heap, Some(wanted))?.as_str())?)
+}
+
+pub fn run(report: &mut Report<'_>) -> anyhow::Result<()> {
+    for target in TARGETS {
+        for (field, label) in FIELDS {
+            try_field(report, *target, *field, label)?;
+        }
+    }
     Ok(())
-}
-
-fn try_fields(rt: &HostRuntime, target: Target) -> anyhow::Result<usize> {
-    for (field, label) in FIELDS {
-        try_field(rt, target, field, label)?;
-    }
-    Ok(FIELDS.len())
-}
-
-pub fn run(rt: &HostRuntime) -> anyhow::Result<usize> {
-    let mut n = 0usize;
-    for target in TARGETS.iter() {
-        n = n.wrapping_add(try_fields(rt, *target)?);
-    }
-    Ok(n)
 }

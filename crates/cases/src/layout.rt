@@ -5,9 +5,10 @@
 // - Flat: byte n of the values is n mod 256. Bits: bits 0 and 2 of each byte are set.
 // - Offsets: number j is 2j. The second buffer of text has 2e bytes, `a` to `z` over and over.
 // - Keys: number j is 1 - j mod 2. Run ends: number k is 2k + 2.
-use records::Record;
+use records::{Kind, Record};
 use std::alloc::{AllocError, Global};
 
+// A constant calls no function, so its zeros are written out.
 pub const NOTHING: Record = Record {
     root: 0,
     kind: 0,
@@ -27,7 +28,7 @@ pub const NOTHING: Record = Record {
 // One record of each kind, the first of its column.
 pub const FLAT: Record = Record {
     root: 1,
-    kind: 1,
+    kind: Kind::Flat as u64,
     width: 4,
     span: 1,
     length: 3,
@@ -36,7 +37,7 @@ pub const FLAT: Record = Record {
 
 pub const BITS: Record = Record {
     root: 1,
-    kind: 2,
+    kind: Kind::Bits as u64,
     span: 1,
     length: 3,
     ..NOTHING
@@ -44,7 +45,7 @@ pub const BITS: Record = Record {
 
 pub const TEXT: Record = Record {
     root: 1,
-    kind: 3,
+    kind: Kind::Bytes as u64,
     width: 4,
     span: 1,
     length: 3,
@@ -53,7 +54,7 @@ pub const TEXT: Record = Record {
 
 pub const KEYS: Record = Record {
     root: 1,
-    kind: 4,
+    kind: Kind::Dictionary as u64,
     width: 1,
     span: 2,
     length: 3,
@@ -62,7 +63,7 @@ pub const KEYS: Record = Record {
 
 pub const LIST: Record = Record {
     root: 1,
-    kind: 5,
+    kind: Kind::List as u64,
     width: 4,
     span: 2,
     length: 2,
@@ -71,7 +72,7 @@ pub const LIST: Record = Record {
 
 pub const STRUCT: Record = Record {
     root: 1,
-    kind: 8,
+    kind: Kind::Struct as u64,
     span: 1,
     length: 3,
     ..NOTHING
@@ -79,7 +80,7 @@ pub const STRUCT: Record = Record {
 
 pub const RUNS: Record = Record {
     root: 1,
-    kind: 9,
+    kind: Kind::Runs as u64,
     width: 2,
     span: 2,
     length: 5,
@@ -100,7 +101,8 @@ pub const INNER_TEXT: Record = Record { root: 0, ..TEXT };
 
 pub const INNER_STRUCT: Record = Record { root: 0, ..STRUCT };
 
-#[derive(Drop)]
+// It has a writer of its own, so that the cases do not rest on the library of the program `trace`.
+#[derive(Debug, Drop)]
 pub struct Column {
     pub records: Vec<Record>,
     pub bytes: Vec<u8>,
@@ -109,84 +111,62 @@ pub struct Column {
 impl Column {
     // The low `width` bytes of a number, the lowest first.
     fn put_number(&mut self, n: u64, width: u64) -> Result<(), AllocError> {
-        let mut rest = n;
-        for _ in 0..width {
-            self.bytes.push((rest % 256) as u8)?;
-            rest /= 256;
-        }
-        Ok(())
+        let end = self.bytes.len().saturating_add(width as usize);
+        self.bytes.extend_from_slice(&n.to_le_bytes())?;
+        self.bytes.resize(end, 0)
     }
 
-    fn put_bitmap(&mut self, bits: u64, byte: u8) -> Result<(), AllocError> {
-        for _ in 0..bits.div_ceil(8) {
-            self.bytes.push(byte)?;
-        }
-        Ok(())
-    }
-
-    fn put_values(&mut self, n: u64) -> Result<(), AllocError> {
-        for i in 0..n {
-            self.bytes.push((i % 256) as u8)?;
-        }
-        Ok(())
-    }
-
-    fn put_letters(&mut self, n: u64) -> Result<(), AllocError> {
-        for i in 0..n {
-            self.bytes.push(b'a' + (i % 26) as u8)?;
-        }
-        Ok(())
-    }
-
-    fn put_offsets(&mut self, n: u64, width: u64) -> Result<(), AllocError> {
+    // `n` of them.
+    fn put_numbers<F: Fn(u64) -> u64>(
+        &mut self,
+        n: u64,
+        width: u64,
+        number: F,
+    ) -> Result<(), AllocError>
+        requires { F.IsAlwaysCallable number }
+    {
         for j in 0..n {
-            self.put_number(j.wrapping_mul(2), width)?;
+            self.put_number(number(j), width)?;
         }
         Ok(())
     }
 
-    fn put_keys(&mut self, n: u64, width: u64) -> Result<(), AllocError> {
-        for j in 0..n {
-            self.put_number(1 - j % 2, width)?;
-        }
-        Ok(())
-    }
-
-    fn put_run_ends(&mut self, n: u64, width: u64) -> Result<(), AllocError> {
-        for k in 0..n {
-            self.put_number(k.wrapping_mul(2).wrapping_add(2), width)?;
-        }
-        Ok(())
+    fn put_bitmap(&mut self, bits: u64, byte: u64) -> Result<(), AllocError> {
+        self.put_numbers(bits.div_ceil(8), 1, |_| byte)
     }
 
     // The first buffer of a record whose last row ends at position e.
     fn put_first(&mut self, r: Record, e: u64) -> Result<(), AllocError> {
-        match r.kind {
-            1 => self.put_values(e.wrapping_mul(r.width)),
-            2 => self.put_bitmap(e, 5),
-            3 => self.put_offsets(e.wrapping_add(1), r.width),
-            4 => self.put_keys(e, r.width),
-            5 => self.put_offsets(e.wrapping_add(1), r.width),
-            9 => self.put_run_ends(r.count, r.width),
-            _ => Ok(()),
+        match Kind::try_from(r.kind) {
+            Ok(Kind::Flat) => self.put_numbers(e.wrapping_mul(r.width), 1, |n| n),
+            Ok(Kind::Bits) => self.put_bitmap(e, 5),
+            Ok(Kind::Bytes) | Ok(Kind::List) => {
+                self.put_numbers(e.wrapping_add(1), r.width, |j| j.wrapping_mul(2))
+            }
+            Ok(Kind::Dictionary) => self.put_numbers(e, r.width, |j| 1 - j % 2),
+            Ok(Kind::Runs) => self.put_numbers(r.count, r.width, |k| {
+                k.wrapping_mul(2).wrapping_add(2)
+            }),
+            Ok(Kind::Struct) | Err(_) => Ok(()),
         }
     }
 
     fn put_record(&mut self, r: Record) -> Result<(), AllocError> {
         let e = r.start.wrapping_add(r.length);
+        let kind = Kind::try_from(r.kind);
         let mut laid = r;
         if r.nulls == 1 {
             laid.v = self.bytes.len() as u64;
             self.put_bitmap(e, 0xfd)?;
         }
-        if r.kind != 8 {
+        if kind != Ok(Kind::Struct) {
             laid.a = self.bytes.len() as u64;
             self.put_first(r, e)?;
         }
-        if r.kind == 3 {
+        if kind == Ok(Kind::Bytes) {
             laid.b = self.bytes.len() as u64;
             laid.count = e.wrapping_mul(2);
-            self.put_letters(laid.count)?;
+            self.put_numbers(laid.count, 1, |n| u64::from(b'a') + n % 26)?;
         }
         self.records.push(laid)?;
         Ok(())

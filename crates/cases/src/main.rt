@@ -11,26 +11,25 @@ mod large;
 mod layout;
 mod malformed;
 mod memory;
+mod report;
 mod spans;
 mod well_formed;
 
-fn run(rt: &HostRuntime) -> anyhow::Result<()> {
-    let columns = [
-        well_formed::run(rt)?,
-        malformed::run(rt)?,
-        example::run(rt)?,
-        spans::run(rt)?,
-        large::run(rt)?,
-    ];
-    let calls = [calls::run(rt)?, faults::run(rt)?];
-    let mut n = 0usize;
-    for part in columns.iter().chain(calls.iter()) {
-        n = n.wrapping_add(*part);
-    }
-    println!(rt; "{n} cases")?;
-    Ok(())
+use report::Report;
+
+fn run(report: &mut Report<'_>) -> anyhow::Result<()> {
+    well_formed::run(report)?;
+    malformed::run(report)?;
+    example::run(report)?;
+    spans::run(report)?;
+    large::run(report)?;
+    calls::run(report)?;
+    faults::run(report)
 }
 
 fn main(rt: HostRuntime) -> anyhow::Result<()> {
-    run(&rt)
+    let mut report = Report::new(&rt);
+    run(&mut report)?;
+    println!(rt; "{} cases", report.passed)?;
+    Ok(())
 }

@@ -5,6 +5,7 @@ use super::change::Field;
 use super::layout::{
     BITS, FLAT, INNER_BITS, INNER_FLAT, INNER_STRUCT, INNER_TEXT, KEYS, LIST, RUNS, STRUCT, TEXT,
 };
+use super::report::Report;
 use records::Record;
 
 const FOUR_VALUES: Record = Record {
@@ -12,7 +13,7 @@ const FOUR_VALUES: Record = Record {
     ..INNER_FLAT
 };
 
-static FIELDS: [Case; 41] = [
+static FIELDS: &[Case] = &[
     Case {
         name: "kind 0",
         records: &[FLAT],
@@ -264,7 +265,7 @@ static FIELDS: [Case; 41] = [
     },
 ];
 
-static VALIDITY: [Case; 8] = [
+static VALIDITY: &[Case] = &[
     Case {
         name: "nulls 2",
         records: &[FLAT],
@@ -333,7 +334,7 @@ static VALIDITY: [Case; 8] = [
     },
 ];
 
-static BUFFERS: [Case; 18] = [
+static BUFFERS: &[Case] = &[
     Case {
         name: "flat one byte beyond the end",
         records: &[FLAT],
@@ -474,7 +475,7 @@ static BUFFERS: [Case; 18] = [
 ];
 
 // The four offsets of TEXT are bytes 0 to 15: 0, 2, 4, 6. The three of LIST are bytes 0 to 11: 0, 2, 4.
-static OFFSETS: [Case; 19] = [
+static OFFSETS: &[Case] = &[
     Case {
         name: "text, offsets 0, 5, 4, 6",
         records: &[TEXT],
@@ -616,7 +617,7 @@ static OFFSETS: [Case; 19] = [
 ];
 
 // The keys of KEYS are bytes 0 to 2.
-static KEY_NUMBERS: [Case; 15] = [
+static KEY_NUMBERS: &[Case] = &[
     Case {
         name: "key 3, three entries",
         records: &[KEYS, INNER_TEXT],
@@ -774,7 +775,7 @@ static KEY_NUMBERS: [Case; 15] = [
 ];
 
 // The run ends of RUNS are bytes 0 to 5: 2, 4, 6.
-static RUN_ENDS: [Case; 13] = [
+static RUN_ENDS: &[Case] = &[
     Case {
         name: "run end 0",
         records: &[RUNS, INNER_FLAT],
@@ -876,7 +877,7 @@ static RUN_ENDS: [Case; 13] = [
     },
 ];
 
-static TREES: [Case; 32] = [
+static TREES: &[Case] = &[
     Case {
         name: "no records",
         records: &[],
@@ -1132,18 +1133,17 @@ static TREES: [Case; 32] = [
     },
 ];
 
-pub fn run(rt: &HostRuntime) -> anyhow::Result<usize> {
-    let mut n = 0usize;
-    for cases in [
-        &FIELDS[..],
-        &VALIDITY[..],
-        &BUFFERS[..],
-        &OFFSETS[..],
-        &KEY_NUMBERS[..],
-        &RUN_ENDS[..],
-        &TREES[..],
-    ] {
-        n = n.wrapping_add(try_all(rt, cases)?);
-    }
-    Ok(n)
+pub fn run(report: &mut Report<'_>) -> anyhow::Result<()> {
+    try_all(
+        report,
+        &[
+            FIELDS,
+            VALIDITY,
+            BUFFERS,
+            OFFSETS,
+            KEY_NUMBERS,
+            RUN_ENDS,
+            TREES,
+        ],
+    )
 }

@@ -1,25 +1,12 @@
 // A store with its memory. Before the first call each byte is 0xee, and so is each field of each record.
 use super::change::{Change, Field, set_field};
+use super::faults::numbers;
 use super::layout::lay;
 use records::Record;
 use std::alloc::{AllocError, Global};
-use store::{Cell, Fault, Marks, admit, cell, input, number, record, set_up, slice};
+use store::{Cell, Fault, Marks, Stretch, admit, cell, set_up, slice};
 
-const FILL: Record = Record {
-    root: 0xee,
-    kind: 0xee,
-    width: 0xee,
-    logic: 0xee,
-    size: 0xee,
-    span: 0xee,
-    start: 0xee,
-    length: 0xee,
-    nulls: 0xee,
-    v: 0xee,
-    a: 0xee,
-    b: 0xee,
-    count: 0xee,
-};
+const FILL: u8 = 0xee;
 
 #[derive(Clone, Copy)]
 pub enum Call {
@@ -41,6 +28,7 @@ pub enum Call {
 
 #[derive(Drop)]
 pub struct Memory {
+    heap: Global,
     records: Vec<Record>,
     bytes: Vec<u8>,
     marks: Marks,
@@ -55,42 +43,18 @@ pub struct Before {
     byte_mark: u64,
 }
 
-pub fn fields(r: Record) -> [u64; 13] {
-    [
-        r.root, r.kind, r.width, r.logic, r.size, r.span, r.start, r.length, r.nulls, r.v, r.a,
-        r.b, r.count,
-    ]
-}
-
-// Number i is below `low`, or not below `high`.
-fn is_kept(i: usize, low: u64, high: u64) -> bool {
-    (i as u64) < low || i as u64 >= high
-}
-
-// The records below `low`, and those from `high` on, are the same.
-fn keeps_records(old: &[Record], new: &[Record], low: u64, high: u64) -> bool {
-    for ((i, r), s) in old.iter().enumerate().zip(new.iter()) {
-        if is_kept(i, low, high) && fields(*r) != fields(*s) {
-            return false;
-        }
-    }
+// The elements outside `low..high` are the same.
+fn keeps<T: PartialEq>(old: &[T], new: &[T], low: u64, high: u64) -> bool {
+    let changed = low..high;
     old.len() == new.len()
-}
-
-fn keeps_bytes(old: &[u8], new: &[u8], low: u64, high: u64) -> bool {
-    for ((i, x), y) in old.iter().enumerate().zip(new.iter()) {
-        if is_kept(i, low, high) && *x != *y {
-            return false;
-        }
-    }
-    old.len() == new.len()
+        && (0u64..)
+            .zip(old.iter().zip(new))
+            .all(|(i, (x, y))| changed.contains(&i) || *x == *y)
 }
 
 fn refusal(heap: Global, fault: Fault) -> Result<String, AllocError> {
-    let n = number(fault);
-    let i = input(fault);
-    let r = record(fault);
-    format!(in heap; "refused {n} input {i} record {r}")
+    let told = numbers(heap, fault)?;
+    format!(in heap; "refused {told}")
 }
 
 fn placed(heap: Global, answer: Result<u64, Fault>) -> Result<String, AllocError> {
@@ -100,45 +64,32 @@ fn placed(heap: Global, answer: Result<u64, Fault>) -> Result<String, AllocError
     }
 }
 
-fn put_hex(text: &mut String, bytes: &[u8]) -> Result<(), AllocError> {
-    let digits = [
-        '0', '1', '2', '3', '4', '5', '6', '7', '8', '9', 'a', 'b', 'c', 'd', 'e', 'f',
-    ];
-    for byte in bytes {
-        text.push(digits[(*byte / 16) as usize])?;
-        text.push(digits[(*byte % 16) as usize])?;
-    }
-    Ok(())
-}
-
 fn held(heap: Global, cell: Cell<'_>) -> Result<String, AllocError> {
     match cell {
         Cell::Null => String::from_str(heap, "null"),
-        Cell::Bit(true) => String::from_str(heap, "bit 1"),
-        Cell::Bit(false) => String::from_str(heap, "bit 0"),
+        Cell::Bit(bit) => format!(in heap; "bit {}", u8::from(bit)),
         Cell::Bytes { place, part } => {
-            let mut text = format!(in heap; "bytes {place} x")?;
-            put_hex(&mut text, part)?;
-            Ok(text)
+            let hex = hex::encode(heap, part)?;
+            format!(in heap; "bytes {place} x{hex}")
         }
     }
 }
 
 impl Memory {
     pub fn new(heap: Global, records: usize, bytes: usize) -> Result<Memory, AllocError> {
+        let record = Record::from([u64::from(FILL); 13]);
         Ok(Memory {
-            records: vec![in heap; FILL; records]?,
-            bytes: vec![in heap; 0xee; bytes]?,
+            heap,
+            records: vec![in heap; record; records]?,
+            bytes: vec![in heap; FILL; bytes]?,
             marks: set_up(),
         })
     }
 
-    pub fn copied(&self, heap: Global) -> Result<Before, AllocError> {
-        let records = self.records.as_slice().to_vec(heap)?;
-        let bytes = self.bytes.as_slice().to_vec(heap)?;
+    pub fn copied(&self) -> Result<Before, AllocError> {
         Ok(Before {
-            records,
-            bytes,
+            records: self.records.clone()?,
+            bytes: self.bytes.clone()?,
             record_mark: self.marks.records(),
             byte_mark: self.marks.bytes(),
         })
@@ -146,12 +97,12 @@ impl Memory {
 
     // Nothing has changed but what lies between the old marks and the new.
     pub fn keeps(&self, old: &Before) -> bool {
-        keeps_records(
+        keeps(
             old.records.as_slice(),
             self.records.as_slice(),
             old.record_mark,
             self.marks.records(),
-        ) && keeps_bytes(
+        ) && keeps(
             old.bytes.as_slice(),
             self.bytes.as_slice(),
             old.byte_mark,
@@ -164,13 +115,8 @@ impl Memory {
         self.marks.records() == old.record_mark && self.marks.bytes() == old.byte_mark
     }
 
-    fn admit(
-        &mut self,
-        heap: Global,
-        records: &[Record],
-        changes: &[Change],
-    ) -> anyhow::Result<String> {
-        let mut column = lay(heap, records)?;
+    fn admit(&mut self, records: &[Record], changes: &[Change]) -> anyhow::Result<String> {
+        let mut column = lay(self.heap, records)?;
         column.change_all(changes)?;
         let answer = admit(
             self.records.as_mut_slice(),
@@ -179,28 +125,20 @@ impl Memory {
             column.records.as_slice(),
             column.bytes.as_slice(),
         );
-        Ok(placed(heap, answer)?)
+        Ok(placed(self.heap, answer)?)
     }
 
-    fn slice(
-        &mut self,
-        heap: Global,
-        place: u64,
-        first: u64,
-        rows: u64,
-    ) -> Result<String, AllocError> {
+    fn slice(&mut self, place: u64, first: u64, rows: u64) -> Result<String, AllocError> {
         let answer = slice(
             self.records.as_mut_slice(),
             self.bytes.as_slice(),
             &mut self.marks,
-            place,
-            first,
-            rows,
+            Stretch { place, first, rows },
         );
-        placed(heap, answer)
+        placed(self.heap, answer)
     }
 
-    fn cell(&self, heap: Global, place: u64, row: u64) -> Result<String, AllocError> {
+    fn cell(&self, place: u64, row: u64) -> Result<String, AllocError> {
         match cell(
             self.records.as_slice(),
             self.bytes.as_slice(),
@@ -208,65 +146,54 @@ impl Memory {
             place,
             row,
         ) {
-            Ok(found) => held(heap, found),
-            Err(fault) => refusal(heap, fault),
+            Ok(found) => held(self.heap, found),
+            Err(fault) => refusal(self.heap, fault),
         }
     }
 
-    fn show_marks(&self, heap: Global) -> Result<String, AllocError> {
+    fn show_marks(&self) -> Result<String, AllocError> {
         let r = self.marks.records();
         let b = self.marks.bytes();
-        format!(in heap; "marks {r} {b}")
+        format!(in self.heap; "marks {r} {b}")
     }
 
-    fn show_record(&self, heap: Global, i: usize) -> Result<String, AllocError> {
+    fn show_record(&self, i: usize) -> Result<String, AllocError> {
         match self.records.get(i) {
-            Some(r) => {
-                let numbers = fields(*r);
-                format!(in heap; "{numbers:?}")
-            }
-            None => String::from_str(heap, "no record"),
+            Some(r) => format!(in self.heap; "{:?}", <[u64; 13]>::from(*r)),
+            None => String::from_str(self.heap, "no record"),
         }
     }
 
-    fn show_bytes(&self, heap: Global, from: usize, to: usize) -> Result<String, AllocError> {
-        let mut text = String::from_str(heap, "x")?;
-        if let Some(part) = self.bytes.as_slice().get(from..to) {
-            put_hex(&mut text, part)?;
-        }
-        Ok(text)
+    fn show_bytes(&self, from: usize, to: usize) -> Result<String, AllocError> {
+        let part = self.bytes.as_slice().get(from..to).unwrap_or(&[]);
+        let hex = hex::encode(self.heap, part)?;
+        format!(in self.heap; "x{hex}")
     }
 
-    fn lend(&mut self, heap: Global, records: usize, bytes: usize) -> Result<String, AllocError> {
+    fn lend(&mut self, records: usize, bytes: usize) -> Result<String, AllocError> {
         self.records.truncate(records);
         self.bytes.truncate(bytes);
         let r = self.records.len();
         let b = self.bytes.len();
-        format!(in heap; "memory {r} {b}")
+        format!(in self.heap; "memory {r} {b}")
     }
 
-    fn spoil(
-        &mut self,
-        heap: Global,
-        i: usize,
-        field: Field,
-        value: u64,
-    ) -> anyhow::Result<String> {
+    fn spoil(&mut self, i: usize, field: Field, value: u64) -> anyhow::Result<String> {
         set_field(&mut self.records, i, field, value)?;
-        Ok(self.show_record(heap, i)?)
+        Ok(self.show_record(i)?)
     }
 
     // What a call answers, as text.
-    pub fn call(&mut self, heap: Global, call: Call) -> anyhow::Result<String> {
+    pub fn call(&mut self, call: Call) -> anyhow::Result<String> {
         match call {
-            Call::Admit(records, changes) => self.admit(heap, records, changes),
-            Call::Slice(place, first, rows) => Ok(self.slice(heap, place, first, rows)?),
-            Call::Cell(place, row) => Ok(self.cell(heap, place, row)?),
-            Call::Marks => Ok(self.show_marks(heap)?),
-            Call::Record(i) => Ok(self.show_record(heap, i)?),
-            Call::Bytes(from, to) => Ok(self.show_bytes(heap, from, to)?),
-            Call::Lend(records, bytes) => Ok(self.lend(heap, records, bytes)?),
-            Call::Spoil(i, field, value) => self.spoil(heap, i, field, value),
+            Call::Admit(records, changes) => self.admit(records, changes),
+            Call::Slice(place, first, rows) => Ok(self.slice(place, first, rows)?),
+            Call::Cell(place, row) => Ok(self.cell(place, row)?),
+            Call::Marks => Ok(self.show_marks()?),
+            Call::Record(i) => Ok(self.show_record(i)?),
+            Call::Bytes(from, to) => Ok(self.show_bytes(from, to)?),
+            Call::Lend(records, bytes) => Ok(self.lend(records, bytes)?),
+            Call::Spoil(i, field, value) => self.spoil(i, field, value),
         }
     }
 }

@@ -1,51 +1,49 @@
 // The largest columns, and places.
-use super::case::try_column;
 use super::layout::{Column, FLAT, INNER_FLAT, INNER_STRUCT, LIST, STRUCT, lay};
+use super::report::Report;
 use records::Record;
+use std::alloc::Global;
 
-// A struct with n children.
-fn wide(rt: &HostRuntime, n: u64) -> anyhow::Result<Column> {
-    let mut column = lay(
-        rt.alloc(),
-        &[Record {
-            span: n.wrapping_add(1),
-            ..STRUCT
-        }],
-    )?;
-    for _ in 0..n {
-        column.records.push(INNER_STRUCT)?;
-    }
+// A struct of n records.
+fn root(heap: Global, n: u64) -> anyhow::Result<Column> {
+    Ok(lay(heap, &[Record { span: n, ..STRUCT }])?)
+}
+
+// Its children side by side.
+fn wide(heap: Global, n: usize) -> anyhow::Result<Column> {
+    let mut column = root(heap, n as u64)?;
+    column.records.resize(n, INNER_STRUCT)?;
     Ok(column)
 }
 
-// Structs within structs, n below the first.
-fn deep(rt: &HostRuntime, n: u64) -> anyhow::Result<Column> {
-    let mut column = lay(
-        rt.alloc(),
-        &[Record {
-            span: n.wrapping_add(1),
-            ..STRUCT
-        }],
-    )?;
-    for i in 0..n {
+// Its children one in another.
+fn deep(heap: Global, n: u64) -> anyhow::Result<Column> {
+    let mut column = root(heap, n)?;
+    for span in (1..n).rev() {
         column.records.push(Record {
-            span: n - i,
+            span,
             ..INNER_STRUCT
         })?;
     }
     Ok(column)
 }
 
-fn try_sizes(rt: &HostRuntime) -> anyhow::Result<usize> {
-    try_column(rt, "64 records side by side", &wide(rt, 63)?, 0, None)?;
-    try_column(rt, "65 records side by side", &wide(rt, 64)?, 0, Some(0))?;
-    try_column(rt, "64 records one in another", &deep(rt, 63)?, 0, None)?;
-    try_column(rt, "65 records one in another", &deep(rt, 64)?, 0, Some(0))?;
-    Ok(4)
+fn try_sizes(report: &mut Report<'_>) -> anyhow::Result<()> {
+    let heap = report.heap();
+    let sizes = [
+        ("64 records side by side", wide(heap, 64)?, None),
+        ("65 records side by side", wide(heap, 65)?, Some(0)),
+        ("64 records one in another", deep(heap, 64)?, None),
+        ("65 records one in another", deep(heap, 65)?, Some(0)),
+    ];
+    for (name, column, expected) in &sizes {
+        report.try_column(name, column, 0, *expected)?;
+    }
+    Ok(())
 }
 
 // A list over four values at place 0 and a flat column at place 2.
-static PLACES: [(u64, &'static str, Option<u64>); 7] = [
+static PLACES: &[(u64, &'static str, Option<u64>)] = &[
     (0, "place 0 of 3", None),
     (1, "place 1 of 3, an inner record", Some(0)),
     (2, "place 2 of 3", None),
@@ -55,9 +53,9 @@ static PLACES: [(u64, &'static str, Option<u64>); 7] = [
     (u64::MAX, "place 2^64 - 1", Some(0)),
 ];
 
-fn try_places(rt: &HostRuntime) -> anyhow::Result<usize> {
+fn try_places(report: &mut Report<'_>) -> anyhow::Result<()> {
     let two = lay(
-        rt.alloc(),
+        report.heap(),
         &[
             LIST,
             Record {
@@ -68,12 +66,12 @@ fn try_places(rt: &HostRuntime) -> anyhow::Result<usize> {
         ],
     )?;
     for (place, name, expected) in PLACES {
-        try_column(rt, name, &two, place, expected)?;
+        report.try_column(name, &two, *place, *expected)?;
     }
-    Ok(PLACES.len())
+    Ok(())
 }
 
-pub fn run(rt: &HostRuntime) -> anyhow::Result<usize> {
-    let n = try_sizes(rt)?;
-    Ok(n.wrapping_add(try_places(rt)?))
+pub fn run(report: &mut Report<'_>) -> anyhow::Result<()> {
+    try_sizes(report)?;
+    try_places(report)
 }

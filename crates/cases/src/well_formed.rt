@@ -5,9 +5,10 @@ use super::change::Field;
 use super::layout::{
     BITS, FLAT, INNER_BITS, INNER_FLAT, INNER_STRUCT, INNER_TEXT, KEYS, LIST, RUNS, STRUCT, TEXT,
 };
+use super::report::Report;
 use records::Record;
 
-static PLAIN: [Case; 26] = [
+static PLAIN: &[Case] = &[
     Case {
         name: "flat, no rows",
         records: &[Record { length: 0, ..FLAT }],
@@ -209,7 +210,7 @@ static PLAIN: [Case; 26] = [
 ];
 
 // The four offsets of TEXT are bytes 0 to 15: 0, 2, 4, 6; its letters are bytes 16 to 21.
-static TEXTS: [Case; 13] = [
+static TEXTS: &[Case] = &[
     Case {
         name: "text, no rows",
         records: &[Record { length: 0, ..TEXT }],
@@ -302,7 +303,7 @@ static TEXTS: [Case; 13] = [
     },
 ];
 
-static DICTIONARIES: [Case; 22] = [
+static DICTIONARIES: &[Case] = &[
     Case {
         name: "keys, width 1",
         records: &[KEYS, INNER_TEXT],
@@ -531,7 +532,7 @@ static DICTIONARIES: [Case; 22] = [
     },
 ];
 
-static LISTS: [Case; 10] = [
+static LISTS: &[Case] = &[
     Case {
         name: "list, no rows",
         records: &[
@@ -664,7 +665,7 @@ static LISTS: [Case; 10] = [
 ];
 
 // The run ends of RUNS are bytes 0 to 5: 2, 4, 6.
-static RUN_ENDS: [Case; 15] = [
+static RUN_ENDS: &[Case] = &[
     Case {
         name: "runs, width 2",
         records: &[RUNS, INNER_FLAT],
@@ -810,16 +811,6 @@ static RUN_ENDS: [Case; 15] = [
     },
 ];
 
-pub fn run(rt: &HostRuntime) -> anyhow::Result<usize> {
-    let mut n = 0usize;
-    for cases in [
-        &PLAIN[..],
-        &TEXTS[..],
-        &DICTIONARIES[..],
-        &LISTS[..],
-        &RUN_ENDS[..],
-    ] {
-        n = n.wrapping_add(try_all(rt, cases)?);
-    }
-    Ok(n)
+pub fn run(report: &mut Report<'_>) -> anyhow::Result<()> {
+    try_all(report, &[PLAIN, TEXTS, DICTIONARIES, LISTS, RUN_ENDS])
 }

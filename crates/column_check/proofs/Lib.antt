@@ -1,2 +1,4 @@
 pub mod Same
 pub mod Loops
+pub mod Passed
+pub mod Chains

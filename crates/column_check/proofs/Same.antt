@@ -1,14 +1,14 @@
 -- The tests of the check and the rules of the format agree.
-use Rattle.std.proofs.Common.{◌≡◌, ℕ, zero, suc, ◌+◌, ◌-◌, ◌≤◌, Bool, true, false, cond, eqb, ltb, leb, List, [], ◌∷◌, map, get_or, Some, sym, refl, ap, ◌∙◌, subst, arith}
+use Rattle.std.proofs.Common.{◌≡◌, ℕ, zero, suc, ◌+◌, ◌-◌, ◌<◌, ◌≤◌, Bool, true, false, cond, eqb, ltb, leb, List, [], ◌∷◌, map, length, get_or, Some, sym, refl, ap, ◌∙◌, subst, arith}
 use Rattle.std.specs.List.{range_with_len, AllByRecursion}
-use Rattle.std.proofs.lemmas.Bool.{leb-true, ltb-false, eqb-true, eq-eqb, lt-ltb, le-ltb, le-leb}
-use Rattle.records.specs.declared.Record.{Record}
+use Rattle.std.proofs.lemmas.Bool.{leb-true, ltb-true, ltb-false, eqb-true, eq-eqb, lt-ltb, le-ltb, le-leb}
+use Rattle.records.specs.declared.record.Record.{Record}
 use Rattle.numbers.specs.Little.{not_negative}
 use Rattle.format.specs.Trees.{rec_at}
-use Rattle.format.specs.Meaning.{Kind, flat, bits, bytes, dictionary, list, structs, runs, kind_of, number, ends_of}
+use Rattle.format.specs.Meaning.{Kind, flat, bits, bytes, dictionary, list, structs, runs, other, kind_of, number, ends_of}
 use Rattle.format.specs.Rules.{both, all_of, every, total, last, rises, end_of, offset_rules, one_child, no_child, kind_rules, record_rules, trees_from, children_at, ruled_at, ok_at, root_rules, inner_ok, first_not, first_broken}
 use Rattle.format.proofs.Tests.{no_way, sub_true, both_true, same_test, all_of_lem, all_in}
-use Rattle.column_check.specs.Tests.{in_turn, climbs, offsets_of, offsets_ok, rising, reaches, walk, single, flat_tests, bit_tests, bytes_tests, dictionary_tests, list_tests, struct_tests, run_tests, kind_ok, record_tests, root_tests, inner_from, first_failed}
+use Rattle.column_check.specs.Tests.{in_turn, climbs, offsets_of, offsets_ok, rising, reaches, walk, single, flat_tests, bit_tests, bytes_tests, dictionary_tests, list_tests, struct_tests, run_tests, kind_tests, record_tests, root_tests, inner_from, first_failed}
 
 -- where all tests hold, number i does
 pub test : (ts : List Bool) → in_turn ts ≡ true → (i : ℕ) → get_or ts i true ≡ true
@@ -134,9 +134,10 @@ walked f rs (suc n) (suc m) k e low a b h = go (ltb k e) refl h (λ l x y g. wal
         → Walked f k e (cond t (rec_at rs k ∷ trees_from m rs (k + (rec_at rs k).span) e) [])
     go false t h more = let l = ltb-false k e t in record { each = refl; some = refl; ends = omega arith }
     go true t h more =
-        let h1 = sub_true _ _ h in
-        let h2 = sub_true _ _ h1.1 in
-        let h3 = sub_true _ _ h2.1 in
+        let rest = walk n f rs (k + (rec_at rs k).span) e in
+        let h1 = sub_true (leb 1 (rec_at rs k).span) (both (leb (k + (rec_at rs k).span) e) (both (f (rec_at rs k)) rest)) h in
+        let h2 = sub_true (leb (k + (rec_at rs k).span) e) (both (f (rec_at rs k)) rest) h1.1 in
+        let h3 = sub_true (f (rec_at rs k)) rest h2.1 in
         let one = leb-true 1 (rec_at rs k).span h1.0 in
         let in' = leb-true (k + (rec_at rs k).span) e h2.0 in
         let w = more in' (omega arith) (omega arith) h3.1 in
@@ -195,26 +196,31 @@ module _ (bs : List ℕ) (rs : List Record) (p : ℕ) where
       subst (Asked bs r K) (sym (one_kid rs p r.span two s))
       (record { kind = h; some = ap (λ b. both b true) one; spans = omega arith })
 
-  way : (t x y : Bool) (K L : Kind) → (x ≡ true → A K) → (y ≡ true → A L) → cond t x y ≡ true → A (cond t K L)
-  way true x y K L f g h = f h
-  way false x y K L f g h = g h
-
-  asked : 1 ≤ r.span → kind_ok bs rs r p ≡ true → A (kind_of r.kind)
-  asked one =
-      way (eqb r.kind 1) _ _ _ _ (λ h. let q = test (flat_tests bs r) h in alone flat (q 2) (all_in (kind_rules bs r [] flat) (q 0, (q 1, (refl, (q 3, tt))))))
-      (way (eqb r.kind 2) _ _ _ _ (λ h. let q = test (bit_tests bs r) h in alone bits (q 1) (all_in (kind_rules bs r [] bits) (q 0, (refl, (q 2, tt)))))
-      (way (eqb r.kind 3) _ _ _ _ (λ h. let q = test (bytes_tests bs r) h in alone bytes (q 3) (all_in (kind_rules bs r [] bytes) (q 0, (offsets_to bs r r.count (q 1), (q 2, (refl, (q 4, tt)))))))
-      (way (eqb r.kind 4) _ _ _ _ (λ h. let q = test (dictionary_tests bs r k) h in lone dictionary (q 3) (all_in (kind_rules bs r (k ∷ []) dictionary) (q 0, (q 1, (q 2, (q 4, (q 5, tt)))))))
-      (way (eqb r.kind 5) _ _ _ _ (λ h. let q = test (list_tests bs r k) h in lone list (q 1) (all_in (kind_rules bs r (k ∷ []) list) (q 0, (offsets_to bs r k.length (q 2), (q 3, tt)))))
-      (way (eqb r.kind 8) _ _ _ _ (λ h.
+  asked : 1 ≤ r.span → (K : Kind) → in_turn (kind_tests bs rs r p K) ≡ true → A K
+  asked one flat h =
+      let q = test (flat_tests bs r) h in
+      alone flat (q 2) (all_in (kind_rules bs r [] flat) (q 0, (q 1, (refl, (q 3, tt)))))
+  asked one bits h =
+      let q = test (bit_tests bs r) h in
+      alone bits (q 1) (all_in (kind_rules bs r [] bits) (q 0, (refl, (q 2, tt))))
+  asked one bytes h =
+      let q = test (bytes_tests bs r) h in
+      alone bytes (q 3) (all_in (kind_rules bs r [] bytes) (q 0, (offsets_to bs r r.count (q 1), (q 2, (refl, (q 4, tt))))))
+  asked one dictionary h =
+      let q = test (dictionary_tests bs r k) h in
+      lone dictionary (q 3) (all_in (kind_rules bs r (k ∷ []) dictionary) (q 0, (q 1, (q 2, (q 4, (q 5, tt))))))
+  asked one list h =
+      let q = test (list_tests bs r k) h in
+      lone list (q 1) (all_in (kind_rules bs r (k ∷ []) list) (q 0, (offsets_to bs r k.length (q 2), (q 3, tt))))
+  asked one structs h =
       let q = test (struct_tests rs r p) h in
       let w = walked (reaches (end_of r)) rs (r.span - 1) r.span (p + 1) (p + r.span) (omega arith) (omega arith) (omega arith) (q 1) in
-      record { kind = all_in (kind_rules bs r (children_at rs p) structs) (w.each, (q 0, tt)); some = w.some; spans = omega (arith, w.ends) })
-      (way (eqb r.kind 9) _ _ _ _ (λ h.
+      record { kind = all_in (kind_rules bs r (children_at rs p) structs) (w.each, (q 0, tt)); some = w.some; spans = omega (arith, w.ends) }
+  asked one runs h =
       let q = test (run_tests bs r k) h in
       let w = rising_to r.width (end_of r) 0 (ends_of bs r) (q 2) in
-      lone runs (q 3) (all_in (kind_rules bs r (k ∷ []) runs) (q 0, (q 1, (w.0, (w.1, (w.2, (q 4, (q 5, tt)))))))))
-      (λ h. no_way h)))))))
+      lone runs (q 3) (all_in (kind_rules bs r (k ∷ []) runs) (q 0, (q 1, (w.0, (w.1, (w.2, (q 4, (q 5, tt))))))))
+  asked one other h = no_way h
 
   -- the other way round
   no_kids : (K : Kind) → A K → no_child (children_at rs p) ≡ true → eqb r.span 1 ≡ true
@@ -244,31 +250,33 @@ module _ (bs : List ℕ) (rs : List Record) (p : ℕ) where
       go zero e h s n = no_way h
       go (suc m) e h s n = first_one (ltb (p + 1) (p + suc m)) (trees_from m rs (p + 1 + k.span) (p + suc m)) h s n
 
-  back : (t x y : Bool) (K L : Kind) → (A K → x ≡ true) → (A L → y ≡ true) → A (cond t K L) → cond t x y ≡ true
-  back true x y K L f g h = f h
-  back false x y K L f g h = g h
-
-  tested : A (kind_of r.kind) → kind_ok bs rs r p ≡ true
-  tested =
-      back (eqb r.kind 1) _ _ _ _ (λ a. let t = all_of_lem (kind_rules bs r (children_at rs p) flat) a.kind in
-      in_turn_lem (flat_tests bs r) (t.0, (t.1.0, (no_kids flat a t.1.1.0, (t.1.1.1.0, tt)))))
-      (back (eqb r.kind 2) _ _ _ _ (λ a. let t = all_of_lem (kind_rules bs r (children_at rs p) bits) a.kind in
-      in_turn_lem (bit_tests bs r) (t.0, (no_kids bits a t.1.0, (t.1.1.0, tt))))
-      (back (eqb r.kind 3) _ _ _ _ (λ a. let t = all_of_lem (kind_rules bs r (children_at rs p) bytes) a.kind in
-      in_turn_lem (bytes_tests bs r) (t.0, (offsets_from bs r r.count t.1.0, (t.1.1.0, (no_kids bytes a t.1.1.1.0, (t.1.1.1.1.0, tt))))))
-      (back (eqb r.kind 4) _ _ _ _ (λ a. let t = all_of_lem (kind_rules bs r (children_at rs p) dictionary) a.kind in
+  tested : (K : Kind) → A K → in_turn (kind_tests bs rs r p K) ≡ true
+  tested flat a =
+      let t = all_of_lem (kind_rules bs r (children_at rs p) flat) a.kind in
+      in_turn_lem (flat_tests bs r) (t.0, (t.1.0, (no_kids flat a t.1.1.0, (t.1.1.1.0, tt))))
+  tested bits a =
+      let t = all_of_lem (kind_rules bs r (children_at rs p) bits) a.kind in
+      in_turn_lem (bit_tests bs r) (t.0, (no_kids bits a t.1.0, (t.1.1.0, tt)))
+  tested bytes a =
+      let t = all_of_lem (kind_rules bs r (children_at rs p) bytes) a.kind in
+      in_turn_lem (bytes_tests bs r) (t.0, (offsets_from bs r r.count t.1.0, (t.1.1.0, (no_kids bytes a t.1.1.1.0, (t.1.1.1.1.0, tt)))))
+  tested dictionary a =
+      let t = all_of_lem (kind_rules bs r (children_at rs p) dictionary) a.kind in
       let c = one_child_lem dictionary _ a t.1.1.1.0 in
-      in_turn_lem (dictionary_tests bs r k) (t.0, (t.1.0, (t.1.1.0, (c.0, (c.1, (t.1.1.1.1.0, tt)))))))
-      (back (eqb r.kind 5) _ _ _ _ (λ a. let t = all_of_lem (kind_rules bs r (children_at rs p) list) a.kind in
+      in_turn_lem (dictionary_tests bs r k) (t.0, (t.1.0, (t.1.1.0, (c.0, (c.1, (t.1.1.1.1.0, tt))))))
+  tested list a =
+      let t = all_of_lem (kind_rules bs r (children_at rs p) list) a.kind in
       let c = one_child_lem list _ a t.1.0 in
-      in_turn_lem (list_tests bs r k) (t.0, (c.0, (offsets_from bs r k.length c.1, (t.1.1.0, tt)))))
-      (back (eqb r.kind 8) _ _ _ _ (λ a. let t = all_of_lem (kind_rules bs r (children_at rs p) structs) a.kind in
+      in_turn_lem (list_tests bs r k) (t.0, (c.0, (offsets_from bs r k.length c.1, (t.1.1.0, tt))))
+  tested structs a =
+      let t = all_of_lem (kind_rules bs r (children_at rs p) structs) a.kind in
       let n = a.spans in
-      in_turn_lem (struct_tests rs r p) (t.1.0, (walk_from (reaches (end_of r)) rs (r.span - 1) r.span (p + 1) (p + r.span) (record { each = t.0; some = a.some; ends = omega arith }), tt)))
-      (back (eqb r.kind 9) _ _ _ _ (λ a. let t = all_of_lem (kind_rules bs r (children_at rs p) runs) a.kind in
+      in_turn_lem (struct_tests rs r p) (t.1.0, (walk_from (reaches (end_of r)) rs (r.span - 1) r.span (p + 1) (p + r.span) (record { each = t.0; some = a.some; ends = omega arith }), tt))
+  tested runs a =
+      let t = all_of_lem (kind_rules bs r (children_at rs p) runs) a.kind in
       let c = one_child_lem runs _ a t.1.1.1.1.1.0 in
-      in_turn_lem (run_tests bs r k) (t.0, (t.1.0, (rising_from r.width (end_of r) 0 (ends_of bs r) t.1.1.0 t.1.1.1.0 t.1.1.1.1.0, (c.0, (c.1, (t.1.1.1.1.1.1.0, tt)))))))
-      (λ a. no_way a.kind)))))))
+      in_turn_lem (run_tests bs r k) (t.0, (t.1.0, (rising_from r.width (end_of r) 0 (ends_of bs r) t.1.1.0 t.1.1.1.0 t.1.1.1.1.0, (c.0, (c.1, (t.1.1.1.1.1.1.0, tt))))))
+  tested other a = no_way a.kind
 
   pub record_same : (e : ℕ) → in_turn (record_tests bs rs e p) ≡ ok_at bs rs e p
   record_same e = same_test (in_turn (record_tests bs rs e p)) (ok_at bs rs e p) to from
@@ -276,7 +284,7 @@ module _ (bs : List ℕ) (rs : List Record) (p : ℕ) where
       to : in_turn (record_tests bs rs e p) ≡ true → ok_at bs rs e p ≡ true
       to h =
           let q = test (record_tests bs rs e p) h in
-          let w = asked (leb-true 1 r.span (q 3)) (q 5) in
+          let w = asked (leb-true 1 r.span (q 3)) (kind_of r.kind) (q 5) in
           both_true (leb (p + r.span) e) (ruled_at bs rs p) (q 4)
           (all_in (record_rules bs r (children_at rs p))
           (q 0, (q 1, (q 2, (w.kind, (w.some, (eq-eqb r.span (1 + total (λ x. x.span) (children_at rs p)) w.spans, tt)))))))
@@ -287,7 +295,7 @@ module _ (bs : List ℕ) (rs : List Record) (p : ℕ) where
           let t = all_of_lem (record_rules bs r (children_at rs p)) g.1 in
           let n = eqb-true r.span (1 + total (λ x. x.span) (children_at rs p)) t.1.1.1.1.1.0 in
           in_turn_lem (record_tests bs rs e p)
-          (t.0, (t.1.0, (t.1.1.0, (le-leb 1 r.span (omega arith), (g.0, (tested (record { kind = t.1.1.1.0; some = t.1.1.1.1.0; spans = n }), tt))))))
+          (t.0, (t.1.0, (t.1.1.0, (le-leb 1 r.span (omega arith), (g.0, (tested (kind_of r.kind) (record { kind = t.1.1.1.0; some = t.1.1.1.1.0; spans = n }), tt))))))
 
 root_same : (bs : List ℕ) (rs : List Record) (q : ℕ) → in_turn (root_tests bs rs q) ≡ all_of (root_rules bs rs q)
 root_same bs rs q = same_test (in_turn (root_tests bs rs q)) (all_of (root_rules bs rs q)) to from
@@ -325,3 +333,10 @@ first_then bs rs q t =
 pub first_else : (bs : List ℕ) (rs : List Record) (q : ℕ) → in_turn (root_tests bs rs q) ≡ false → Some 0 ≡ first_broken bs rs q
 first_else bs rs q t =
     sym (ap (λ b. cond b (first_not (inner_from bs rs q (rec_at rs q).span) (range_with_len 1 ((rec_at rs q).span - 1))) (Some 0)) t) ∙ first_same bs rs q
+
+-- what a root that breaks no rule says of its place
+pub root_here : (bs : List ℕ) (rs : List Record) (q : ℕ) → in_turn (root_tests bs rs q) ≡ true → q < length rs
+root_here bs rs q t = ltb-true q (length rs) (test (root_tests bs rs q) t 0)
+
+pub root_inside : (bs : List ℕ) (rs : List Record) (q : ℕ) → in_turn (root_tests bs rs q) ≡ true → q + (rec_at rs q).span ≤ length rs
+root_inside bs rs q t = leb-true (q + (rec_at rs q).span) (length rs) (test (root_tests bs rs q) t 3)

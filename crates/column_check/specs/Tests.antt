@@ -2,11 +2,11 @@
 -- two agree is shown in proofs/Same.antt.
 use Rattle.std.specs.Prelude.{ℕ, zero, suc, ◌+◌, ◌-◌, ◌*◌, Bool, true, false, cond, List, [], ◌∷◌, map, length, Some, None, Option, ◌==◌, nat_le, nat_lt}
 use Rattle.std.specs.List.{range_with_len}
-use Rattle.records.specs.declared.Record.{Record}
+use Rattle.records.specs.declared.record.Record.{Record}
 use Rattle.numbers.specs.Little.{not_negative}
 use Rattle.numbers.specs.Bits.{bit_bytes}
 use Rattle.format.specs.Trees.{rec_at}
-use Rattle.format.specs.Meaning.{number, ends_of}
+use Rattle.format.specs.Meaning.{Kind, flat, bits, bytes, dictionary, list, structs, runs, other, kind_of, number, ends_of}
 use Rattle.format.specs.Rules.{both, every, one_of, zeros, end_of, room, key_ok, validity_ok, first_not}
 
 -- one test after another
@@ -90,12 +90,18 @@ run_tests bs r k =
     ∷ rising true r.width (end_of r) 0 (ends_of bs r) ∷ single r k ∷ nat_le r.count k.length
     ∷ zeros (r.nulls ∷ r.size ∷ r.b ∷ []) ∷ []
 
+abbrev pub kind_tests : List ℕ → List Record → Record → ℕ → Kind → List Bool
+kind_tests bs rs r p flat = flat_tests bs r
+kind_tests bs rs r p bits = bit_tests bs r
+kind_tests bs rs r p bytes = bytes_tests bs r
+kind_tests bs rs r p dictionary = dictionary_tests bs r (rec_at rs (p + 1))
+kind_tests bs rs r p list = list_tests bs r (rec_at rs (p + 1))
+kind_tests bs rs r p structs = struct_tests rs r p
+kind_tests bs rs r p runs = run_tests bs r (rec_at rs (p + 1))
+kind_tests bs rs r p other = false ∷ []
+
 abbrev pub kind_ok : List ℕ → List Record → Record → ℕ → Bool
-kind_ok bs rs r p =
-    cond (r.kind == 1) (in_turn (flat_tests bs r)) (cond (r.kind == 2) (in_turn (bit_tests bs r))
-    (cond (r.kind == 3) (in_turn (bytes_tests bs r)) (cond (r.kind == 4) (in_turn (dictionary_tests bs r (rec_at rs (p + 1))))
-    (cond (r.kind == 5) (in_turn (list_tests bs r (rec_at rs (p + 1)))) (cond (r.kind == 8) (in_turn (struct_tests rs r p))
-    (cond (r.kind == 9) (in_turn (run_tests bs r (rec_at rs (p + 1)))) false))))))
+kind_ok bs rs r p = in_turn (kind_tests bs rs r p (kind_of r.kind))
 
 -- the record at p, in a column that ends at e
 abbrev pub record_tests : List ℕ → List Record → ℕ → ℕ → List Bool

@@ -1,8 +1,11 @@
-// The check of a column in memory.
+//! The check of a column in memory.
 #![tactic(auto)]
 
+mod checked;
 mod column;
 mod rules;
+mod table;
 
-pub use column::first_broken;
+pub use checked::{Broken, Column};
+pub use column::record_at;
 pub use rules::is_null;

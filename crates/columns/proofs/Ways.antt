@@ -1,13 +1,14 @@
 -- The way to a cell, record by record.
-use Rattle.std.proofs.Common.{◌≡◌, ℕ, zero, suc, ◌+◌, ◌-◌, ◌<◌, ◌≤◌, Bool, true, false, cond, eqb, ltb, leb, List, [], ◌∷◌, map, length, drop, sym, refl, ap, ◌∙◌, subst, arith}
-use Rattle.std.specs.List.{range_with_len, AllByRecursion}
-use Rattle.std.proofs.lemmas.Bool.{lt-leb, le-leb, leb-true, eqb-true}
-use Rattle.std.proofs.lemmas.List.{drop_more, drop_all}
+use Rattle.std.proofs.Common.{◌≡◌, ℕ, zero, suc, ◌+◌, ◌-◌, ◌<◌, ◌≤◌, Bool, true, false, cond, not, eqb, ltb, leb, Some, List, [], ◌∷◌, map, length, take, drop, get_or, sym, refl, ap, ◌∙◌, subst, arith}
+use Rattle.std.specs.List.{range_with_len, find, AllByRecursion}
+use Rattle.std.specs.Option.{option_map_or, unwrap_or}
+use Rattle.std.proofs.lemmas.Bool.{leb-true, eqb-true, ltb-true}
+use Rattle.std.proofs.lemmas.List.{drop_more, take_all, length-drop, get_or-drop}
 use Rattle.std.proofs.lemmas.List.FromFn.{length-map-range_with_len}
-use Rattle.records.specs.declared.Record.{Record}
+use Rattle.records.specs.declared.record.Record.{Record}
 use Rattle.format.specs.Trees.{nothing, rec_at}
 use Rattle.format.specs.Meaning.{Kind, flat, bits, bytes, dictionary, list, structs, runs, other, kind_of, is_null, number, ends_of, run_of}
-use Rattle.format.specs.Rules.{all_of, one_of, end_of, kind_rules, record_rules, children_at, ruled_at, WellFormed}
+use Rattle.format.specs.Rules.{both, all_of, one_of, end_of, kind_rules, record_rules, trees_from, children_at, ruled_at, WellFormed}
 use Rattle.format.specs.Cells.{absent, leads_on, leads, found_at, found}
 use Rattle.format.proofs.Tests.{no_way, all_of_lem}
 use Rattle.format.proofs.Facts.{Says, facts, run_below}
@@ -16,75 +17,47 @@ use Rattle.format.proofs.Known.{right}
 use Rattle.columns.specs.Held as held
 use Rattle.columns.specs.Held.{Held, shown, here, child, step, step_at}
 use Rattle.columns.specs.Readable.{Readable}
-use Rattle.column_check.proofs.Loops.{turn_at}
 
--- one record more, on the way to a value
-leads_turn : (rs : List Record) (x : ℕ) → x < length rs → leads (drop x rs) ≡ leads_on (kind_of (rec_at rs x).kind) (leads (drop (x + 1) rs))
-leads_turn rs x l = ap leads (drop_more rs x nothing l)
+-- the first record that leads no further has values, or has none
+abbrev pub holds : Record → Bool
+holds r = leads_on (kind_of r.kind) false
 
-yes : (K : Kind) (b : Bool) → leads_on K false ≡ true → leads_on K b ≡ true
-yes flat b h = refl
-yes bits b h = refl
-yes bytes b h = refl
-yes dictionary b h = no_way h
-yes list b h = no_way h
-yes structs b h = no_way h
-yes runs b h = no_way h
-yes other b h = no_way h
+abbrev pub stays : Record → Bool
+stays r = not (both (leads_on (kind_of r.kind) true) (not (leads_on (kind_of r.kind) false)))
 
-no : (K : Kind) (b : Bool) → leads_on K true ≡ false → leads_on K b ≡ false
-no flat b h = no_way (sym h)
-no bits b h = no_way (sym h)
-no bytes b h = no_way (sym h)
-no dictionary b h = no_way (sym h)
-no list b h = refl
-no structs b h = refl
-no runs b h = no_way (sym h)
-no other b h = refl
+pub leads_first : (rs : List Record) → option_map_or holds (find stays rs) false ≡ leads rs
+leads_first [] = refl
+leads_first (r ∷ rs) = at (kind_of r.kind) refl (leads_first rs)
+  where
+    at : (K : Kind) → holds r ≡ leads_on K false → option_map_or holds (find stays rs) false ≡ leads rs
+        → option_map_or holds (cond (not (both (leads_on K true) (not (leads_on K false)))) (Some r) (find stays rs)) false ≡ leads_on K (leads rs)
+    at flat h e = h
+    at bits h e = h
+    at bytes h e = h
+    at dictionary h e = e
+    at list h e = h
+    at structs h e = h
+    at runs h e = e
+    at other h e = h
 
-on : (K : Kind) (b : Bool) → leads_on K false ≡ false → leads_on K true ≡ true → leads_on K b ≡ b
-on flat b h g = no_way (sym h)
-on bits b h g = no_way (sym h)
-on bytes b h g = no_way (sym h)
-on dictionary b h g = refl
-on list b h g = no_way g
-on structs b h g = no_way g
-on runs b h g = refl
-on other b h g = no_way g
+-- the first run that ends above j
+run_found : (f : ℕ → ℕ) (j s n : ℕ) → unwrap_or (find (λ k. not (leb (f k) j)) (range_with_len s n)) (s + n) ≡ s + run_of (map f (range_with_len s n)) j
+run_found f j s zero = refl
+run_found f j s (suc n) = at (leb (f s) j) (run_found f j (s + 1) n)
+  where
+    at : (t : Bool) → unwrap_or (find (λ k. not (leb (f k) j)) (range_with_len (s + 1) n)) (s + 1 + n) ≡ s + 1 + run_of (map f (range_with_len (s + 1) n)) j
+        → unwrap_or (cond (not t) (Some s) (find (λ k. not (leb (f k) j)) (range_with_len (s + 1) n))) (s + suc n) ≡ s + cond t (1 + run_of (map f (range_with_len (s + 1) n)) j) 0
+    at true e =
+        let z : s + suc n ≡ s + 1 + n = omega arith in
+        let m : s + 1 + run_of (map f (range_with_len (s + 1) n)) j ≡ s + (1 + run_of (map f (range_with_len (s + 1) n)) j) = omega arith in
+        ap (unwrap_or (find (λ k. not (leb (f k) j)) (range_with_len (s + 1) n))) z ∙ e ∙ m
+    at false e = omega arith
 
-pub leads_yes : (rs : List Record) (x : ℕ) → x < length rs → leads_on (kind_of (rec_at rs x).kind) false ≡ true → leads (drop x rs) ≡ true
-leads_yes rs x l h = leads_turn rs x l ∙ yes (kind_of (rec_at rs x).kind) (leads (drop (x + 1) rs)) h
-
-pub leads_no : (rs : List Record) (x : ℕ) → x < length rs → leads_on (kind_of (rec_at rs x).kind) true ≡ false → leads (drop x rs) ≡ false
-leads_no rs x l h = leads_turn rs x l ∙ no (kind_of (rec_at rs x).kind) (leads (drop (x + 1) rs)) h
-
-pub leads_more : (rs : List Record) (x : ℕ) → x < length rs → leads_on (kind_of (rec_at rs x).kind) false ≡ false → leads_on (kind_of (rec_at rs x).kind) true ≡ true
-    → leads (drop (x + 1) rs) ≡ leads (drop x rs)
-leads_more rs x l h g = sym (leads_turn rs x l ∙ on (kind_of (rec_at rs x).kind) (leads (drop (x + 1) rs)) h g)
-
-pub leads_none : (rs : List Record) (x : ℕ) → length rs ≤ x → leads (drop x rs) ≡ false
-leads_none rs x l = ap leads (drop_all x rs l)
-
--- one run more
-run_turn : (f : ℕ → ℕ) (k n j : ℕ) → k < n → run_of (map f (range_with_len k (n - k))) j ≡ cond (leb (f k) j) (1 + run_of (map f (range_with_len (k + 1) (n - (k + 1)))) j) 0
-run_turn f k n j h = ap (λ l. run_of (map f l) j) (turn_at k n h)
-
-pub run_here : (f : ℕ → ℕ) (k n j : ℕ) → k < n → j < f k → k + run_of (map f (range_with_len k (n - k))) j ≡ k
-run_here f k n j h l =
-    let t = run_turn f k n j h in
-    let e = ap (λ b. cond b (1 + run_of (map f (range_with_len (k + 1) (n - (k + 1)))) j) 0) (lt-leb (f k) j l) in
-    let z : run_of (map f (range_with_len k (n - k))) j ≡ 0 = t ∙ e in
-    omega arith
-
-pub run_past : (f : ℕ → ℕ) (k n j : ℕ) → k < n → f k ≤ j → k + 1 + run_of (map f (range_with_len (k + 1) (n - (k + 1)))) j ≡ k + run_of (map f (range_with_len k (n - k))) j
-run_past f k n j h l =
-    let t = run_turn f k n j h in
-    let e = ap (λ b. cond b (1 + run_of (map f (range_with_len (k + 1) (n - (k + 1)))) j) 0) (le-leb (f k) j l) in
-    let z : run_of (map f (range_with_len k (n - k))) j ≡ 1 + run_of (map f (range_with_len (k + 1) (n - (k + 1)))) j = t ∙ e in
-    omega arith
-
-pub run_end : (f : ℕ → ℕ) (k n j : ℕ) → n ≤ k → run_of (map f (range_with_len k (n - k))) j ≡ 0
-run_end f k n j h = let m : n - k ≡ 0 = omega arith in ap (λ x. run_of (map f (range_with_len k x)) j) m
+pub run_first : (f : ℕ → ℕ) (j n : ℕ) → unwrap_or (find (λ k. not (leb (f k) j)) (range_with_len 0 n)) n ≡ run_of (map f (range_with_len 0 n)) j
+run_first f j n =
+    let z : n ≡ 0 + n = omega arith in
+    let m : 0 + run_of (map f (range_with_len 0 n)) j ≡ run_of (map f (range_with_len 0 n)) j = omega arith in
+    ap (unwrap_or (find (λ k. not (leb (f k) j)) (range_with_len 0 n))) z ∙ run_found f j 0 n ∙ m
 
 -- a read at a row of a record that keeps its rules
 width_low : (w : ℕ) (ws : List ℕ) → AllByRecursion (λ x. x ≤ 8) ws → one_of w ws ≡ true → w ≤ 8
@@ -129,14 +102,14 @@ readable bs r ks h i l =
 pub lone_next : (rs : List Record) (p : ℕ) (k : Record) → children_at rs p ≡ k ∷ [] → (k ≡ rec_at rs (p + 1)) × (p + 1 < p + (rec_at rs p).span)
 lone_next rs p k = go (rec_at rs p).span
   where
-    go : (s : ℕ) → Rattle.format.specs.Rules.trees_from s rs (p + 1) (p + s) ≡ k ∷ [] → (k ≡ rec_at rs (p + 1)) × (p + 1 < p + s)
-    go zero e = let z : ◌≡◌ {A = ℕ} 0 1 = cc in absurd (omega arith)
+    go : (s : ℕ) → trees_from s rs (p + 1) (p + s) ≡ k ∷ [] → (k ≡ rec_at rs (p + 1)) × (p + 1 < p + s)
+    go zero e = cc
     go (suc m) e = at (ltb (p + 1) (p + suc m)) refl e
       where
-        at : (t : Bool) → ltb (p + 1) (p + suc m) ≡ t → cond t (rec_at rs (p + 1) ∷ Rattle.format.specs.Rules.trees_from m rs (p + 1 + (rec_at rs (p + 1)).span) (p + suc m)) [] ≡ k ∷ []
+        at : (t : Bool) → ltb (p + 1) (p + suc m) ≡ t → cond t (rec_at rs (p + 1) ∷ trees_from m rs (p + 1 + (rec_at rs (p + 1)).span) (p + suc m)) [] ≡ k ∷ []
             → (k ≡ rec_at rs (p + 1)) × (p + 1 < p + suc m)
-        at true t e = (cc, Rattle.std.proofs.lemmas.Bool.ltb-true (p + 1) (p + suc m) t)
-        at false t e = let z : ◌≡◌ {A = ℕ} 0 1 = cc in absurd (omega arith)
+        at true t e = (cc, ltb-true (p + 1) (p + suc m) t)
+        at false t e = cc
 
 -- the next step of the way: the row of the child
 pub record Onward (bs : List ℕ) (rs : List Record) (p i k : ℕ) : Type 0 where
@@ -145,7 +118,7 @@ pub record Onward (bs : List ℕ) (rs : List Record) (p i k : ℕ) : Type 0 wher
   pub same : found bs (drop p rs) i ≡ found bs (drop (p + 1) rs) k
 
 here_child : (h : Held) (k : ℕ) → here h ≡ child k → ⊥
-here_child h k e = let z : ◌≡◌ {A = ℕ} 0 1 = cc in omega arith
+here_child h k e = cc
 
 module _ (bs : List ℕ) (rs : List Record) (p : ℕ) (in' : p < length rs) (ok : ruled_at bs rs p ≡ true) (i : ℕ) (l : i < (rec_at rs p).length) where
   abbrev r : Record
@@ -159,17 +132,17 @@ module _ (bs : List ℕ) (rs : List Record) (p : ℕ) (in' : p < length rs) (ok 
 
   by_kind : (K : Kind) → Says K bs r (children_at rs p) → is_null bs r j ≡ false → (k : ℕ) → step_at bs r K j ≡ child k
       → (p + 1 < p + r.span) × (k < (rec_at rs (p + 1)).length) × (found_at bs r K (found bs (drop (p + 1) rs)) j ≡ found bs (drop (p + 1) rs) k)
-  by_kind flat s v k e = absurd (here_child _ k e)
-  by_kind bits s v k e = absurd (here_child _ k e)
-  by_kind bytes s v k e = absurd (here_child _ k e)
+  by_kind flat s v k e = cc
+  by_kind bits s v k e = cc
+  by_kind bytes s v k e = cc
   by_kind dictionary s v k e =
       let c = s.1 in
       let n = lone_next rs p c.child c.alone in
       let z : number bs r j ≡ k = cc in
       let q = c.holds j (omega arith) (omega arith) v in
       (n.1, rw (← z) (subst (λ x. number bs r j < x.length) n.0 q), ap (found bs (drop (p + 1) rs)) z)
-  by_kind list s v k e = absurd (here_child _ k e)
-  by_kind structs s v k e = absurd (here_child _ k e)
+  by_kind list s v k e = cc
+  by_kind structs s v k e = cc
   by_kind runs s v k e =
       let c = s.3 in
       let n = lone_next rs p c.child c.alone in
@@ -178,7 +151,7 @@ module _ (bs : List ℕ) (rs : List Record) (p : ℕ) (in' : p < length rs) (ok 
       let m = length-map-range_with_len (number bs r) 0 r.count in
       let q : run_of (ends_of bs r) j < c.child.length = omega (arith, c.holds) in
       (n.1, rw (← z) (subst (λ x. run_of (ends_of bs r) j < x.length) n.0 q), ap (found bs (drop (p + 1) rs)) z)
-  by_kind other s v k e = absurd (here_child _ k e)
+  by_kind other s v k e = cc
 
   pub onward : (k : ℕ) → step bs r j ≡ child k → Onward bs rs p i k
   onward k e = go (is_null bs r j) refl e
@@ -193,10 +166,10 @@ module _ (bs : List ℕ) (rs : List Record) (p : ℕ) (in' : p < length rs) (ok 
   at_here flat h e = cc
   at_here bits h e = cc
   at_here bytes h e = cc
-  at_here dictionary h e = let z : ◌≡◌ {A = ℕ} 0 1 = cc in absurd (omega arith)
+  at_here dictionary h e = cc
   at_here list h e = cc
   at_here structs h e = cc
-  at_here runs h e = let z : ◌≡◌ {A = ℕ} 0 1 = cc in absurd (omega arith)
+  at_here runs h e = cc
   at_here other h e = cc
 
   pub arrived : (h : Held) → step bs r j ≡ here h → shown bs (found bs (drop p rs) i) ≡ h
@@ -216,3 +189,42 @@ ruled_in bs rs q p w a b =
       subst (λ x. ruled_at bs rs x ≡ true) z (k.each (p - q) (omega arith)),
       subst (λ x. x + (rec_at rs x).span ≤ q + (rec_at rs q).span) z (k.ends (p - q) (omega arith)),
     )
+
+-- the records of a slice from q on
+pub item : (rs : List Record) (q k : ℕ) → get_or (take (length rs - q) (drop q rs)) k nothing ≡ rec_at rs (q + k)
+item rs q k = ap (λ l. get_or l k nothing) (take_all (length rs - q) (drop q rs) (omega (arith, length-drop q rs))) ∙ get_or-drop q rs k nothing
+
+-- the way from a row of a well-formed column has come to row i of the record k after its first
+pub record Way (bs : List ℕ) (rs : List Record) (q row k i : ℕ) : Type 0 where
+  pub same : found bs (drop (q + k) rs) i ≡ found bs (drop q rs) row
+  pub low : i < (rec_at rs (q + k)).length
+  pub inside : k < (rec_at rs q).span
+
+module _ (bs : List ℕ) (rs : List Record) (q : ℕ) (w : WellFormed bs rs q) (row : ℕ) where
+  pub way_starts : row < (rec_at rs q).length → Way bs rs q row 0 row
+  way_starts l =
+      let z : q + 0 ≡ q = omega arith in
+      record { same = ap (λ p. found bs (drop p rs) row) z; low = rw z l; inside = omega (arith, (right bs rs q w).head.some) }
+
+  module _ (k i : ℕ) (a : Way bs rs q row k i) where
+    ruled : (ruled_at bs rs (q + k) ≡ true) × (q + k + (rec_at rs (q + k)).span ≤ q + (rec_at rs q).span)
+    ruled = ruled_in bs rs q (q + k) w (omega arith) (omega (arith, a.inside))
+
+    there : q + k < length rs
+    there = omega (arith, (right bs rs q w).inside, a.inside)
+
+    pub way_reads : Readable bs (rec_at rs (q + k)) ((rec_at rs (q + k)).start + i)
+    way_reads = readable bs (rec_at rs (q + k)) (children_at rs (q + k)) ruled.0 i a.low
+
+    pub way_ends : (h : Held) → step bs (rec_at rs (q + k)) ((rec_at rs (q + k)).start + i) ≡ here h → shown bs (found bs (drop q rs) row) ≡ h
+    way_ends h e = ap (shown bs) (sym a.same) ∙ arrived bs rs (q + k) there ruled.0 i a.low h e
+
+    pub way_goes : (n : ℕ) → step bs (rec_at rs (q + k)) ((rec_at rs (q + k)).start + i) ≡ child n → Way bs rs q row (k + 1) n
+    way_goes n e =
+        let o = onward bs rs (q + k) there ruled.0 i a.low n e in
+        let z : q + k + 1 ≡ q + (k + 1) = omega arith in
+        record {
+          same = ap (λ p. found bs (drop p rs) n) (sym z) ∙ sym o.same ∙ a.same;
+          low = rw (← z) o.low;
+          inside = omega (arith, o.next, ruled.1);
+        }

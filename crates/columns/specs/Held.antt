@@ -1,14 +1,14 @@
 -- What a cell holds, with no pointer in it: no_value, a bit, or a place of the byte memory and the bytes from there on.
 use Rattle.std.specs.Prelude.{ℕ, ◌+◌, Bool, cond, List, take, drop, Some, None, Option}
 use Rattle.std.specs.Borrow.{Bor}
-use Rattle.records.specs.declared.Record.{Record}
+use Rattle.records.specs.declared.record.Record.{Record}
 use Rattle.format.specs.Rows.{Row, null, raw}
 use Rattle.format.specs.Meaning.{Kind, flat, bits, bytes, dictionary, list, structs, runs, other, kind_of, is_null, number, ends_of, run_of}
 use Rattle.format.specs.Cells.{Found, absent, a_bit, bytes_at, found_at}
 use Rattle.columns.specs.declared.cells.Cell.{Cell}
 use Rattle.columns.specs.declared.cells.Cell.TheVariants.{Null, Bit, Bytes}
-use Rattle.columns.specs.declared.cells.Step.{Step}
-use Rattle.columns.specs.declared.cells.Step.TheVariants.{Here, Child}
+use Rattle.std.specs.declared.ops.ControlFlow.{ControlFlow}
+use Rattle.std.specs.declared.ops.ControlFlow.TheVariants.{Continue, Break}
 
 pub data Held : Type 0 where
   no_value : Held
@@ -31,9 +31,9 @@ pub data Stepped : Type 0 where
   here : Held → Stepped
   child : ℕ → Stepped
 
-abbrev pub stepped : Step → Stepped
-stepped (Here c) = here (held c)
-stepped (Child i) = child i
+abbrev pub stepped : ControlFlow Cell ℕ → Stepped
+stepped (Break c) = here (held c)
+stepped (Continue i) = child i
 
 abbrev pub step_at : List ℕ → Record → Kind → ℕ → Stepped
 step_at bs r flat j = here (shown bs (found_at bs r flat (λ i. absent) j))

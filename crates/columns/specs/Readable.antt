@@ -1,6 +1,6 @@
 -- What a read at position j of a record rests on: the buffers that it touches are there. A well-formed column has it at every row.
 use Rattle.std.specs.Prelude.{◌≡◌, ℕ, ◌+◌, ◌*◌, ◌/◌, ◌<◌, ◌≤◌, true, List, length}
-use Rattle.records.specs.declared.Record.{Record}
+use Rattle.records.specs.declared.record.Record.{Record}
 use Rattle.format.specs.Meaning.{number}
 use Rattle.format.specs.Rules.{end_of, validity_ok}
 

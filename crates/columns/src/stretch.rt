@@ -3,26 +3,38 @@ ghost use Rattle.format.specs.Moves.{window};
 
 use records::Record;
 
-// These functions are public for the crates above.
+/// Rows `first` to first + rows − 1 of the column at `place`.
+#[derive(Clone, Copy, Debug, PartialEq, Eq)]
+pub struct Stretch {
+    pub place: u64,
+    pub first: u64,
+    pub rows: u64,
+}
 
-// n things from number `first` on do not all lie below `end`.
-pub fn is_outside(end: u64, first: u64, n: u64) -> bool
-    ensures { result ≡ nat_lt end (first + n) }
-{
-    match first.checked_add(n) {
-        Some(last) => end < last,
-        None => true,
+impl Stretch {
+    /// Its rows do not all lie below `length`.
+    pub fn is_outside(self, length: u64) -> bool
+        ensures { result ≡ nat_lt length (self.first + self.rows) }
+    {
+        is_outside(length, self.first, self.rows)
+    }
+
+    /// The record r over these of its rows. It is public for the crates above, which test the stretch first.
+    pub fn windowed(self, r: Record) -> Record
+        requires { r.start + self.first < 2 ^ 64 }
+        ensures { result ≡ window r self.first self.rows }
+    {
+        Record {
+            start: r.start + self.first,
+            length: self.rows,
+            ..r
+        }
     }
 }
 
-// The same record over n rows from row f on, of a stretch that was tested.
-pub fn windowed(r: Record, f: u64, n: u64) -> Record
-    requires { r.start + f < 2 ^ 64 }
-    ensures { result ≡ window r f n }
+/// n things from number `first` on do not all lie below `end`.
+pub fn is_outside(end: u64, first: u64, n: u64) -> bool
+    ensures { result ≡ nat_lt end (first + n) }
 {
-    Record {
-        start: r.start + f,
-        length: n,
-        ..r
-    }
+    first.checked_add(n).is_none_or(|last| end < last)
 }

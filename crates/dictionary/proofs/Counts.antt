@@ -17,8 +17,8 @@ use Rattle.dictionary.specs.Pieces.{PieceOk}
 pub shifted : (k : ℕ) → k ≤ 64 → 2 ^ (64 - k) * 2 ^ k ≡ 2 ^ 64
 shifted k l = let e : 64 - k + k ≡ 64 = omega arith in sym (pow-add 2 (64 - k) k) ∙ ap (λ x. 2 ^ x) e
 
-pub shift_whole : (u : ℕ) → u < 2 ^ 40 → (buckets_for u * 2 ^ count_leading_zeros 64 (u + 128) ≡ 2 ^ 64) × (count_leading_zeros 64 (u + 128) < 64) × (0 < count_leading_zeros 64 (u + 128))
-shift_whole u l = go b.power.0 b.power.1 b.power.2
+shifts : (u : ℕ) → u < 2 ^ 40 → (buckets_for u * 2 ^ count_leading_zeros 64 (u + 128) ≡ 2 ^ 64) × (count_leading_zeros 64 (u + 128) < 64) × (0 < count_leading_zeros 64 (u + 128))
+shifts u l = go b.power.0 b.power.1 b.power.2
   where
     b : BucketsRight u
     b = buckets u (omega arith)
@@ -41,6 +41,15 @@ shift_whole u l = go b.power.0 b.power.1 b.power.2
 
         below : (k : ℕ) → k ≤ 64 → 2 ^ k / 2 ≤ u + 128 → k < 64
         below k up h = elim (dec_lt k 64) [ yes x ↦ x | no x ↦ (let e : k ≡ 64 = omega arith in let f : 2 ^ 64 / 2 ≤ u + 128 = subst (λ x. 2 ^ x / 2 ≤ u + 128) e h in absurd (omega arith)) ]
+
+pub shift_whole : (u : ℕ) → u < 2 ^ 40 → buckets_for u * 2 ^ count_leading_zeros 64 (u + 128) ≡ 2 ^ 64
+shift_whole u l = (shifts u l).0
+
+pub shift_low : (u : ℕ) → u < 2 ^ 40 → count_leading_zeros 64 (u + 128) < 64
+shift_low u l = (shifts u l).1
+
+pub shift_some : (u : ℕ) → u < 2 ^ 40 → 0 < count_leading_zeros 64 (u + 128)
+shift_some u l = (shifts u l).2
 
 -- the width of keys is that of a number
 one_of_lem : (P : ℕ → Type 0) (x : ℕ) (ys : List ℕ) → AllByRecursion P ys → one_of x ys ≡ true → P x

@@ -1,12 +1,12 @@
 -- Slots interned one after another: what is left to do leads to what is wanted.
-use Rattle.std.proofs.Common.{◌≡◌, ℕ, ◌+◌, ◌-◌, ◌<◌, ◌≤◌, Bool, true, false, cond, List, [], ◌∷◌, ◌++◌, map, length, get_or, take, drop, set, filter, sym, refl, ap, ◌∙◌, subst, ap₂, add-zero, arith}
+use Rattle.std.proofs.Common.{◌≡◌, ℕ, ◌+◌, ◌-◌, ◌<◌, ◌≤◌, Bool, true, false, cond, ltb, List, [], ◌∷◌, ◌++◌, map, length, get_or, take, drop, set, filter, sym, refl, ap, ◌∙◌, subst, ap₂, add-zero, arith}
 use borrow.Rule.Slice.PartMut.{put_mid}
 use Rattle.std.specs.List.{range_with_len}
 use Rattle.std.proofs.lemmas.List.FromFn.{length-map-range_with_len}
 use Rattle.std.proofs.lemmas.List.Elements.{filter-append}
 use Rattle.std.proofs.lemmas.Slice.{take-put_mid, drop-put_mid}
 use Rattle.std.proofs.lemmas.List.{map-append, length-map, length-append, take_at, drop_at, append_assoc, append-nil, take_more_set, drop-set-lt, drop_more, get_or-drop, length-set, take-append-drop, length-drop, drop-drop}
-use Rattle.records.specs.declared.Slot.{Slot}
+use Rattle.records.specs.declared.slot.Slot.{Slot}
 use Rattle.column_check.proofs.Loops.{turn_at}
 use Rattle.interning.specs.Values.{same_value}
 use Rattle.interning.specs.Interning.{is_new}
@@ -34,16 +34,21 @@ module _ (hash : List ℕ → ℕ) (ts : List Taken) (ss es₀ : List Slot) (tai
 
   -- the next place has the mark of the next slot, and there is room for its entry
   pub going_mark : (s : Slot) (rest es : List Slot) (at : ℕ) (keys : List ℕ) → Going hash ts ss es₀ tail room (s ∷ rest) es at keys
-      → (at < length keys) × (get_or keys at 0 ≡ mark_of ts s) × (length es + mark_of ts s ≤ room)
+      → (at < length keys) × (ltb 0 (get_or keys at 0) ≡ is_used ts s) × (is_used ts s ≡ true → length es < room)
   going_mark s rest es at keys g =
       let l = ap length g.marks in
       let m = length-drop at keys in
       let e : get_or (drop at keys) 0 0 ≡ mark_of ts s = ap (λ x. get_or x 0 0) g.marks in
-      (omega arith, sym (get_or-drop at keys 0 0 ∙ ap (λ x. get_or keys x 0) (add-zero at)) ∙ e, go (is_used ts s) g.few)
+      let k : get_or keys at 0 ≡ mark_of ts s = sym (get_or-drop at keys 0 0 ∙ ap (λ x. get_or keys x 0) (add-zero at)) ∙ e in
+      (omega arith, ap (ltb 0) k ∙ set_mark (is_used ts s), go (is_used ts s) g.few)
     where
-      go : (t : Bool) → length es + length (cond t (s ∷ filter (is_used ts) rest) (filter (is_used ts) rest)) ≤ room → length es + cond t 1 0 ≤ room
-      go true h = omega arith
-      go false h = omega arith
+      set_mark : (t : Bool) → ltb 0 (cond t 1 0) ≡ t
+      set_mark true = refl
+      set_mark false = refl
+
+      go : (t : Bool) → length es + length (cond t (s ∷ filter (is_used ts) rest) (filter (is_used ts) rest)) ≤ room → t ≡ true → length es < room
+      go true h e = omega arith
+      go false h e = absurd cc
 
   pub going_slot : (s : Slot) (rest es : List Slot) (at : ℕ) (keys : List ℕ) → Going hash ts ss es₀ tail room (s ∷ rest) es at keys
       → Going hash ts ss es₀ tail room rest (stepped same_value hash ts s es) (at + 1) (set keys at (in_table (key_here same_value hash ts s es)))
@@ -93,12 +98,12 @@ pub rest_none : (i j n : ℕ) → n ≤ j → rest_in i j n ≡ []
 rest_none i j n l = let e : n - j ≡ 0 = omega arith in ap (λ m. map (slot i) (range_with_len j m)) e
 
 -- one turn of the loop over the slots of an input, whose key k and entries es' the program found
-module _ (hash hash' : List ℕ → ℕ) (same : hash' ≡ hash) (ts : List Taken) (ss es₀ : List Slot) (tail : List ℕ) (room i n : ℕ) (es : List Slot) (j : ℕ) (keys : List ℕ)
+module _ {hash hash' : List ℕ → ℕ} {ts : List Taken} {ss es₀ : List Slot} {tail : List ℕ} {room : ℕ} {es : List Slot} {j : ℕ} {keys : List ℕ} (i n : ℕ) (same : hash' ≡ hash)
     (g : Going hash ts ss es₀ tail room (rest_in i j n) es j keys) (l : j < n) where
   there : Going hash ts ss es₀ tail room (slot i j ∷ rest_in i (j + 1) n) es j keys
   there = going_as hash ts ss es₀ tail room _ _ es j keys (rest_more i j n l) g
 
-  pub turn_mark : (j < length keys) × (get_or keys j 0 ≡ mark_of ts (slot i j)) × (length es + mark_of ts (slot i j) ≤ room)
+  pub turn_mark : (j < length keys) × (ltb 0 (get_or keys j 0) ≡ is_used ts (slot i j)) × (is_used ts (slot i j) ≡ true → length es < room)
   turn_mark = going_mark hash ts ss es₀ tail room (slot i j) (rest_in i (j + 1) n) es j keys there
 
   pub turn_more : (k : ℕ) (es' : List Slot) → k ≡ in_table (key_here same_value hash' ts (slot i j) es) → es' ≡ stepped same_value hash' ts (slot i j) es
@@ -185,7 +190,7 @@ module _ (hash : List ℕ → ℕ) (ts : List Taken) (ss es₀ : List Slot) (tai
           }
 
 -- one turn of the loop over the inputs. The program sees the part of the table from `at` to at + n
-module _ (hash hash' : List ℕ → ℕ) (same : hash' ≡ hash) (bs : List ℕ) (ps : List Piece) (es₀ : List Slot) (room i : ℕ) (es : List Slot) (at : ℕ) (keys : List ℕ)
+module _ {hash hash' : List ℕ → ℕ} {es₀ : List Slot} {room : ℕ} {es : List Slot} {at : ℕ} {keys : List ℕ} (bs : List ℕ) (ps : List Piece) (i : ℕ) (same : hash' ≡ hash)
     (g : Going hash (taken_all bs ps) (slots_of (taken_all bs ps)) es₀ [] room (slots_from i (drop i (taken_all bs ps))) es at keys) (l : i < length ps) where
   abbrev ts : List Taken
   ts = taken_all bs ps

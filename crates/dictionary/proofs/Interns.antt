@@ -5,14 +5,16 @@ use native.Mathlib.Nat.{mul-div_cancel_left}
 use Rattle.std.specs.List.{AllByRecursion}
 use Rattle.std.proofs.lemmas.List.{length-set, take_more, length-take-le}
 use Rattle.std.proofs.lemmas.Bool.{eqb-true, eqb-false}
-use Rattle.records.specs.declared.Slot.{Slot}
+use Rattle.records.specs.declared.slot.Slot.{Slot}
 use Rattle.interning.specs.Values.{Value, hashed_as, same_value}
 use Rattle.interning.specs.Interning.{last_in, number_in, differs, is_new, number_of, entries_after}
 use Rattle.interning.specs.Merging.{Taken, slot, slots_of, value_of, used_slots, same_slot, slot_bucket, count_of_buckets, chosen_slots, walked}
 use Rattle.interning.proofs.Walks.{walk_entries}
 use Rattle.dictionary.specs.declared.piece.Piece.{Piece}
 use Rattle.dictionary.specs.Pieces.{taken_all, SlotIn}
-use Rattle.dictionary.specs.Tables.{entries_in, held_in, HeldSlot, held_entry, Standing, Interns}
+use Rattle.dictionary.specs.Tables.{entries_in, held_in, HeldSlot, held_entry, Standing, Interns, Kept}
+use Rattle.dictionary.specs.declared.dictionaries.Dictionaries.{Dictionaries}
+use Rattle.dictionary.specs.declared.interner.Interner.{Interner}
 
 pub length-entries : (chosen : List Slot) (n : ℕ) → length (entries_in chosen n) ≡ n
 length-entries chosen zero = refl
@@ -51,13 +53,6 @@ entries_take chosen (suc n) l =
     ap (λ k. take k chosen) (sym (add-one n)) ∙ take_more chosen n (slot 0 0) (omega arith) ∙ ap (λ xs. xs ++ get_or chosen n (slot 0 0) ∷ []) ih
     ∙ sym (reverse-cons (get_or chosen n (slot 0 0)) (entries_in chosen n))
 
--- an empty bucket table stands for no entries
-pub stands_none : (hash : List ℕ → ℕ) (bs : List ℕ) (ps : List Piece) (buckets : List ℕ) (chosen : List Slot) (shift : ℕ)
-    → count_of_buckets (taken_all bs ps) * 2 ^ shift ≡ 2 ^ 64 → shift < 64 → count_of_buckets (taken_all bs ps) ≤ length buckets → ((k : ℕ) → get_or buckets k 0 ≡ 0)
-    → Standing hash bs ps buckets chosen 0 shift
-stands_none hash bs ps buckets chosen shift w l b z =
-    record { whole = w; low = l; wide = b; fits = omega arith; within = tt; table = λ k m. z k }
-
 -- an entry number is at most the number of entries before it
 number_in_lem : {V : Type 0} (bucket : V → ℕ) (b : ℕ) (es : List V) → number_in bucket b es ≤ length es
 number_in_lem bucket b [] = omega arith
@@ -93,7 +88,7 @@ all_entry P chosen (suc n) k l h = go (eqb k n) refl (λ m. all_entry P chosen n
     go true t ih = subst (λ x. P (get_or chosen x (slot 0 0))) (sym (eqb-true k n t)) h.0
     go false t ih = let ne = eqb-false k n t in ih (omega arith)
 
-module _ (hash : List ℕ → ℕ) (bs : List ℕ) (ps : List Piece) (buckets : List ℕ) (chosen : List Slot) (n shift : ℕ)
+module _ {hash : List ℕ → ℕ} {bs : List ℕ} {ps : List Piece} {buckets : List ℕ} {chosen : List Slot} {n shift : ℕ}
     (stands : Standing hash bs ps buckets chosen n shift) where
   abbrev ts : List Taken
   ts = taken_all bs ps
@@ -110,21 +105,16 @@ module _ (hash : List ℕ → ℕ) (bs : List ℕ) (ps : List Piece) (buckets : 
   abbrev bucket : Slot → ℕ
   bucket = slot_bucket hash (taken_all bs ps)
 
-  -- the program's shift finds the bucket, and it is one of the table's
-  pub bucket_is : (s : Slot) (v : Value) (b : ℕ) → v ≡ value_of ts s → b ≡ hash (hashed_as v) / 2 ^ shift → bucket s ≡ b
-  bucket_is s v b e f =
-      let p : 0 < B = some B stands.whole in
-      let d : 2 ^ 64 / B ≡ 2 ^ shift = ap (λ x. x / B) (sym stands.whole) ∙ mul-div_cancel_left (2 ^ shift) p in
-      ap₂ (λ x y. hash (hashed_as x) / y) (sym e) d ∙ sym f
+  -- the program's shift finds the bucket, which is one of the table's
+  pub bucket_here : (s : Slot) (v : Value) (b : ℕ) → v ≡ value_of ts s → hash (hashed_as v) < 2 ^ 64 → b ≡ hash (hashed_as v) / 2 ^ shift → (b < B) × (bucket s ≡ b)
+  bucket_here s v b e l f =
+      let h : hash (hashed_as v) < B * 2 ^ shift = omega (arith, stands.whole) in
+      let d : 2 ^ 64 / B ≡ 2 ^ shift = ap (λ x. x / B) (sym stands.whole) ∙ mul-div_cancel_left (2 ^ shift) (some B stands.whole) in
+      (rw f ((div-lt_iff_lt-mul (pow_pos shift)).1 h), ap₂ (λ x y. hash (hashed_as x) / y) (sym e) d ∙ sym f)
     where
       some : (x : ℕ) → x * 2 ^ shift ≡ 2 ^ 64 → 0 < x
       some zero h = absurd (omega arith)
       some (suc x) h = omega arith
-
-  pub bucket_low : (v : Value) (b : ℕ) → hash (hashed_as v) < 2 ^ 64 → b ≡ hash (hashed_as v) / 2 ^ shift → b < B
-  bucket_low v b l f =
-      let h : hash (hashed_as v) < B * 2 ^ shift = omega (arith, stands.whole) in
-      rw f ((div-lt_iff_lt-mul (pow_pos shift)).1 h)
 
   pub held_slot : (b : ℕ) → b < B → HeldSlot ps chosen (get_or buckets b 0)
   held_slot b l = go (get_or buckets b 0) (sym (stands.table b l))
@@ -156,7 +146,7 @@ module _ (hash : List ℕ → ℕ) (bs : List ℕ) (ps : List Piece) (buckets : 
       told = h ∙ ap (held_entry ts chosen (get_or buckets b 0)) e ∙ subst (λ x. held_entry ts chosen (get_or buckets b 0) (value_of ts s) ≡ cond (differs same s (last_in bucket x es)) None (Some (number_in bucket x es))) (sym f) (entry_known s b f l)
 
       go : (t : Bool) → is_new same bucket s es ≡ t → Interns hash ts es s k false es
-      go true t = let x = told in let z : ◌≡◌ {A = ℕ} 0 1 = cc in absurd (omega arith)
+      go true t = let x = told in absurd cc
       go false t = let x = told in record { number = cc; fresh = sym t; entries = rw t }
 
   pub as_new : (s : Slot) (v : Value) (b : ℕ) → v ≡ value_of ts s → bucket s ≡ b → b < B → None ≡ held_entry ts chosen (get_or buckets b 0) v → n < length chosen
@@ -168,7 +158,7 @@ module _ (hash : List ℕ → ℕ) (bs : List ℕ) (ps : List Piece) (buckets : 
 
       go : (t : Bool) → is_new same bucket s es ≡ t → Interns hash ts es s n true (entries_in (set chosen n s) (n + 1))
       go true t = record { number = rw t (sym (length-entries chosen n)); fresh = sym t; entries = rw t (entries_more chosen s n room) }
-      go false t = let x = told in let z : ◌≡◌ {A = ℕ} 0 1 = cc in absurd (omega arith)
+      go false t = let x = told in absurd cc
 
   pub stands_more : (s : Slot) (b : ℕ) → SlotIn ps s → bucket s ≡ b → b < B → n < length chosen
       → Standing hash bs ps (set buckets b (n + 1)) (set chosen n s) (n + 1) shift
@@ -207,9 +197,21 @@ module _ (hash : List ℕ → ℕ) (bs : List ℕ) (ps : List Piece) (buckets : 
       rw i.number (subst (λ x. number_of same bucket s es ≤ x) e l)
 
 -- a hash of equal meaning
-pub stands_as : (hash hash' : List ℕ → ℕ) (bs : List ℕ) (ps : List Piece) (buckets : List ℕ) (chosen : List Slot) (n shift : ℕ) → hash ≡ hash'
+pub stands_as : {hash hash' : List ℕ → ℕ} {bs : List ℕ} {ps : List Piece} {buckets : List ℕ} {chosen : List Slot} {n shift : ℕ} → hash ≡ hash'
     → Standing hash bs ps buckets chosen n shift → Standing hash' bs ps buckets chosen n shift
-stands_as hash hash' bs ps buckets chosen n shift e h = subst (λ f. Standing f bs ps buckets chosen n shift) e h
+stands_as {bs = bs} {ps = ps} {buckets = buckets} {chosen = chosen} {n = n} {shift = shift} e h = subst (λ f. Standing f bs ps buckets chosen n shift) e h
+
+-- kept over some slots, and over some more
+pub kept_more : {hash hash' hash'' : List ℕ → ℕ} {d : Dictionaries} {i j k : Interner} → Kept hash hash' d i j → Kept hash' hash'' d j k → Kept hash hash'' d i k
+kept_more h k =
+    record {
+      stands = stands_as h.same k.stands;
+      lent = record {
+        buckets = record { name = k.lent.buckets.name ∙ h.lent.buckets.name; long = k.lent.buckets.long ∙ h.lent.buckets.long };
+        chosen = record { name = k.lent.chosen.name ∙ h.lent.chosen.name; long = k.lent.chosen.long ∙ h.lent.chosen.long };
+      };
+      same = k.same ∙ h.same;
+    }
 
 -- after all slots, the entries are the merge's
 pub all_chosen : (hash : List ℕ → ℕ) (ts : List Taken) (chosen : List Slot) (n : ℕ) → n ≤ length chosen

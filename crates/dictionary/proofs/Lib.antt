@@ -3,6 +3,7 @@ pub mod Interns
 pub mod Going
 pub mod Masks
 pub mod Counts
+pub mod Same
 pub mod Merges
 pub mod Checks
 pub mod Stretches

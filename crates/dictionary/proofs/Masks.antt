@@ -1,27 +1,25 @@
 -- Masks: the used entries of a piece, and the marks of all slots.
-use Rattle.std.proofs.Common.{◌≡◌, ℕ, suc, ◌+◌, ◌-◌, ◌<◌, ◌≤◌, Bool, true, false, cond, eqb, ltb, ◌≢◌, List, [], ◌∷◌, ◌++◌, map, length, get_or, take, drop, set, Some, None, filter, Option, sym, refl, ap, ◌∙◌, subst, inl, inr, arith}
+use Rattle.std.proofs.Common.{◌≡◌, ℕ, suc, ◌+◌, ◌-◌, ◌<◌, ◌≤◌, Bool, true, false, cond, not, eqb, ltb, ◌≢◌, List, [], ◌∷◌, ◌++◌, map, length, replicate, get_or, take, drop, set, Some, None, filter, Option, sym, refl, ap, ◌∙◌, subst, arith}
 use mathlib.Core.List.{map-map}
 use Rattle.std.specs.List.{range_with_len}
-use Rattle.std.proofs.lemmas.Bool.{eqb-true, eqb-false, cases_lt}
-use Rattle.std.proofs.lemmas.List.{get_or_past, get_or-set_same, get_or-set_other, length-set, map-append, length-map, append_assoc, length-take-le, length-drop}
+use Rattle.std.proofs.lemmas.Bool.{eqb-true, eqb-false}
+use Rattle.std.proofs.lemmas.List.{get_or-set_same, get_or-set_other, length-set, map-append, length-map, length-replicate, get_or-replicate, append_assoc, append-nil, take_all, length-take-le, length-drop}
 use Rattle.std.proofs.lemmas.List.FromFn.{fill_by_all, length-map-range_with_len}
+use Rattle.std.proofs.lemmas.List.Filters.{length-filter_both}
 use Rattle.std.proofs.lemmas.Slice.{take-put_mid}
 use Rattle.numbers.proofs.Places.{mid_put, length-put}
-use Rattle.records.specs.declared.Record.{Record}
+use Rattle.records.specs.declared.record.Record.{Record}
 use Rattle.format.specs.Meaning.{dictionary, kind_of, is_null, number}
 use Rattle.format.proofs.Facts.{Says, facts}
 use Rattle.columns.specs.Held.{key_at}
 use Rattle.column_check.proofs.Loops.{turn_at}
-use Rattle.records.specs.declared.Slot.{Slot}
+use Rattle.records.specs.declared.slot.Slot.{Slot}
 use borrow.Rule.Slice.PartMut.{put_mid}
 use Rattle.interning.specs.Merging.{Taken, is_used, points_to, slot, slots_in, slots_from, slots_of}
 use Rattle.dictionary.specs.declared.piece.Piece.{Piece}
 use Rattle.dictionary.specs.Pieces.{keys_of, taken_all, no_piece, PieceOk}
 use Rattle.dictionary.specs.Tables.{mask_at, marked, marks, mark_of, KeyBelow}
-use Rattle.dictionary.proofs.Slots.{input_is, slots_turn, slots_turn_length}
-
-pub zero_all : (xs : List ℕ) (n : ℕ) → length xs ≤ n → ((k : ℕ) → k < n → get_or xs k 0 ≡ 0) → (k : ℕ) → get_or xs k 0 ≡ 0
-zero_all xs n l h k = elim (cases_lt k n) [ inl x ↦ h k x | inr x ↦ get_or_past xs k 0 (omega arith) ]
+use Rattle.dictionary.proofs.Slots.{input_is, slots_none, slots_turn, slots_turn_length}
 
 -- one key marked, and some
 marked_at : (k : Option ℕ) (ks : List (Option ℕ)) (m : List ℕ) (j : ℕ) → j < length m
@@ -55,17 +53,14 @@ marks_at [] m j l = refl
 marks_at (k ∷ ks) m j l = marks_at ks (marked k m) j (rw length_marked l) ∙ marked_at k ks m j l
 
 -- over zeros, the marks are the mask
-pub marks_all : (ks : List (Option ℕ)) (m : List ℕ) → ((k : ℕ) → get_or m k 0 ≡ 0) → marks ks m ≡ map (mask_at ks) (range_with_len 0 (length m))
-marks_all ks m z =
-    fill_by_all (mask_at ks) (marks ks m) (length m) 0 (length-marks ks m)
-    (λ j l. marks_at ks m j l ∙ ap (λ x. cond (points_to j ks) 1 x) (z j))
+pub marks_all : (ks : List (Option ℕ)) (n : ℕ) → marks ks (replicate n 0) ≡ map (mask_at ks) (range_with_len 0 n)
+marks_all ks n =
+    fill_by_all (mask_at ks) (marks ks (replicate n 0)) n 0 (length-marks ks (replicate n 0) ∙ length-replicate n 0)
+    (λ j l. marks_at ks (replicate n 0) j (rw length-replicate l) ∙ ap (λ x. cond (points_to j ks) 1 x) (get_or-replicate n j 0 0 l))
 
 -- the keys of a piece from row i on
 abbrev pub keys_left : List ℕ → Record → ℕ → List (Option ℕ)
 keys_left bs r i = map (key_at bs r) (range_with_len i (r.length - i))
-
-pub left_all : (bs : List ℕ) (r : Record) → keys_left bs r 0 ≡ keys_of bs r
-left_all bs r = let e : r.length - 0 ≡ r.length = omega arith in ap (λ n. map (key_at bs r) (range_with_len 0 n)) e
 
 pub left_more : (bs : List ℕ) (r : Record) (i : ℕ) → i < r.length → keys_left bs r i ≡ key_at bs r i ∷ keys_left bs r (i + 1)
 left_more bs r i l = ap (map (key_at bs r)) (turn_at i r.length l)
@@ -92,20 +87,26 @@ key_below bs p h i l = go (is_null bs r (r.start + i)) refl
         let e : p.entries ≡ c.child = cc in
         subst (λ k. number bs r (r.start + i) < k.length) (sym e) b
 
-pub one_at_most : (t : Bool) → cond t 1 0 ≤ 1
-one_at_most true = omega arith
-one_at_most false = omega arith
-
 -- the marks of an input's slots are the mask of its piece
 pub mask_marks : (bs : List ℕ) (ps : List Piece) (i n : ℕ) → i < length ps
     → map (mask_at (keys_of bs (get_or ps i no_piece).keys)) (range_with_len 0 n) ≡ map (mark_of (taken_all bs ps)) (slots_in i n)
 mask_marks bs ps i n l =
     ap (λ t. map (mask_at t.keys) (range_with_len 0 n)) (sym (input_is bs ps i l)) ∙ sym (map-map (mark_of (taken_all bs ps)) (slot i) (range_with_len 0 n))
 
+-- at place `at` of the key table the slots from input i on are left, and before it stand the marks of those before them
+pub record Masking (bs : List ℕ) (ps : List Piece) (i at : ℕ) (keys : List ℕ) : Type 0 where
+  pub long : at + length (slots_from i (drop i (taken_all bs ps))) ≡ length keys
+  pub front : take at keys ++ map (mark_of (taken_all bs ps)) (slots_from i (drop i (taken_all bs ps))) ≡ map (mark_of (taken_all bs ps)) (slots_of (taken_all bs ps))
+
+pub masking_end : {bs : List ℕ} {ps : List Piece} {i at : ℕ} {keys : List ℕ} → Masking bs ps i at keys → length ps ≤ i → keys ≡ map (mark_of (taken_all bs ps)) (slots_of (taken_all bs ps))
+masking_end {bs} {ps} {i} {at} {keys} m l =
+    let none = slots_none bs ps i l in
+    let n = ap length none in
+    let e = m.long in
+    sym (take_all at keys (omega arith)) ∙ sym (append-nil (take at keys)) ∙ ap (λ ss. take at keys ++ map (mark_of (taken_all bs ps)) ss) (sym none) ∙ m.front
+
 -- one turn of the loop over the inputs. The program sees the part of the table from `at` to at + n
-module _ (bs : List ℕ) (ps : List Piece) (i at : ℕ) (keys : List ℕ) (l : i < length ps)
-    (long : at + length (slots_from i (drop i (taken_all bs ps))) ≡ length keys)
-    (front : take at keys ++ map (mark_of (taken_all bs ps)) (slots_from i (drop i (taken_all bs ps))) ≡ map (mark_of (taken_all bs ps)) (slots_of (taken_all bs ps))) where
+module _ {bs : List ℕ} {ps : List Piece} {i at : ℕ} {keys : List ℕ} (m : Masking bs ps i at keys) (l : i < length ps) where
   abbrev n : ℕ
   n = (get_or ps i no_piece).entries.length
 
@@ -116,7 +117,7 @@ module _ (bs : List ℕ) (ps : List Piece) (i at : ℕ) (keys : List ℕ) (l : i
   rest = slots_from (i + 1) (drop (i + 1) (taken_all bs ps))
 
   pub mask_within : at + n ≤ length keys
-  mask_within = omega (arith, slots_turn_length bs ps i l)
+  mask_within = omega (arith, m.long, slots_turn_length bs ps i l)
 
   pub mask_long : length part ≡ n
   mask_long =
@@ -125,9 +126,8 @@ module _ (bs : List ℕ) (ps : List Piece) (i at : ℕ) (keys : List ℕ) (l : i
       length-take-le (at + n - at) (drop at keys) (omega (arith, length-drop at keys)) ∙ e
 
   pub mask_more : (ys : List ℕ) → ys ≡ map (mask_at (keys_of bs (get_or ps i no_piece).keys)) (range_with_len 0 (length part))
-      → (at + n + length rest ≡ length (put_mid at (at + n - at) keys ys))
-      × (take (at + n) (put_mid at (at + n - at) keys ys) ++ map (mark_of (taken_all bs ps)) rest ≡ map (mark_of (taken_all bs ps)) (slots_of (taken_all bs ps)))
-  mask_more ys e = (long', front')
+      → Masking bs ps (i + 1) (at + n) (put_mid at (at + n - at) keys ys)
+  mask_more ys e = record { long = long'; front = front' }
     where
       ts : List Taken
       ts = taken_all bs ps
@@ -145,7 +145,7 @@ module _ (bs : List ℕ) (ps : List Piece) (i at : ℕ) (keys : List ℕ) (l : i
           ap length (mid_put at (at + n - at) keys ys (omega arith)) ∙ length-put at ys keys (omega arith)
 
       long' : at + n + length rest ≡ length (put_mid at (at + n - at) keys ys)
-      long' = let k = kept in omega (arith, slots_turn_length bs ps i l)
+      long' = let k = kept in omega (arith, m.long, slots_turn_length bs ps i l)
 
       front' : take (at + n) (put_mid at (at + n - at) keys ys) ++ map (mark_of ts) rest ≡ map (mark_of ts) (slots_of ts)
       front' =
@@ -155,7 +155,7 @@ module _ (bs : List ℕ) (ps : List Piece) (i at : ℕ) (keys : List ℕ) (l : i
           ∙ append_assoc (take at keys) ys (map (mark_of ts) rest)
           ∙ ap (λ x. take at keys ++ (x ++ map (mark_of ts) rest)) mine
           ∙ ap (λ x. take at keys ++ x) (sym (ap (map (mark_of ts)) (slots_turn bs ps i l) ∙ map-append (mark_of ts) (slots_in i n) rest))
-          ∙ front
+          ∙ m.front
 
 -- how many marks are set: as many as slots are used
 pub set_used : (ts : List Taken) (ss : List Slot) → length (filter (λ m. ltb 0 m) (map (mark_of ts) ss)) ≡ length (filter (is_used ts) ss)
@@ -167,3 +167,6 @@ set_used ts (s ∷ ss) = go (is_used ts s) (set_used ts ss)
         ≡ length (cond t (s ∷ filter (is_used ts) ss) (filter (is_used ts) ss))
     go true h = ap suc h
     go false h = h
+
+pub set_few : (marks : List ℕ) → length (filter (λ m. ltb 0 m) marks) ≤ length marks
+set_few marks = omega (arith, length-filter_both (λ m. ltb 0 m) (λ m. not (ltb 0 m)) (λ m. refl) marks)

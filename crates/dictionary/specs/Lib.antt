@@ -1,4 +1,5 @@
 pub mod Pieces
+pub mod Dictionaries
 pub mod Tables
 pub mod Merges
 pub mod Stretches

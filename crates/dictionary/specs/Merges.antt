@@ -1,7 +1,7 @@
 -- The merge of dictionaries: what it answers, and what it leaves in the lent tables.
 use Rattle.std.specs.Prelude.{◌≡◌, ℕ, ◌+◌, Bool, true, false, cond, List, [], ◌∷◌, map, length, take, Ok, Err, Result, ◌==◌, nat_le, nat_lt}
-use Rattle.records.specs.declared.Record.{Record}
-use Rattle.records.specs.declared.Slot.{Slot}
+use Rattle.records.specs.declared.record.Record.{Record}
+use Rattle.records.specs.declared.slot.Slot.{Slot}
 use Rattle.numbers.specs.Little.{largest}
 use Rattle.format.specs.Rules.{both, all_of, every, one_of, total}
 use Rattle.interning.specs.Values.{same_value}

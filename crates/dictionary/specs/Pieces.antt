@@ -1,9 +1,9 @@
 -- What a merge takes of pieces of dictionary columns in memory. `bs` is the byte memory.
-use Rattle.std.specs.Prelude.{◌≡◌, ℕ, ◌+◌, ◌<◌, true, cond, ◌⊎◌, List, [], ◌∷◌, map, length, Some, None, Ok, Err, Option, Result, ◌==◌, nat_lt, slice_index_or}
+use Rattle.std.specs.Prelude.{◌≡◌, ℕ, ◌+◌, ◌<◌, true, cond, List, [], ◌∷◌, map, length, Some, None, Ok, Err, Option, Result, ◌==◌, nat_lt, slice_index_or}
 use Rattle.std.specs.Borrow.{Bor}
-use Rattle.std.specs.List.{range_with_len, AllByRecursion}
-use Rattle.records.specs.declared.Record.{Record}
-use Rattle.records.specs.declared.Slot.{Slot}
+use Rattle.std.specs.List.{range_with_len, All}
+use Rattle.records.specs.declared.record.Record.{Record}
+use Rattle.records.specs.declared.slot.Slot.{Slot}
 use Rattle.format.specs.Rows.{Row, null, raw, bit, listed, struct}
 use Rattle.format.specs.Trees.{nothing, rec_at}
 use Rattle.format.specs.Moves.{window}
@@ -13,7 +13,6 @@ use Rattle.columns.specs.Held.{key_at}
 use Rattle.interning.specs.Values.{Value}
 use Rattle.interning.specs.Merging.{Taken}
 use Rattle.dictionary.specs.declared.piece.Piece.{Piece}
-use Rattle.dictionary.specs.declared.piece.Dictionaries.{Dictionaries}
 use Rattle.dictionary.specs.declared.piece.PieceFault.{PieceFault}
 use Rattle.dictionary.specs.declared.piece.PieceFault.TheVariants.{Malformed, Outside, Kind}
 
@@ -47,7 +46,7 @@ taken_all bs ps = map (taken_of bs) ps
 pub record PieceOk (bs : List ℕ) (p : Piece) : Type 0 where
   pub kind : p.keys.kind ≡ 4
   pub keys : all_of (record_rules bs p.keys (p.entries ∷ [])) ≡ true
-  pub leaf : (p.entries.kind ≡ 1) ⊎ (p.entries.kind ≡ 3)
+  pub leaf : one_of p.entries.kind (1 ∷ 3 ∷ []) ≡ true
   pub entries : all_of (record_rules bs p.entries []) ≡ true
 
 abbrev pub no_piece : Piece
@@ -58,15 +57,9 @@ pub record SlotIn (ps : List Piece) (s : Slot) : Type 0 where
   pub input : s.input < length ps
   pub entry : s.entry < (slice_index_or ps s.input no_piece).entries.length
 
--- the same of the program's pieces and the bytes that they lie in
-abbrev pub taken : Dictionaries → List Taken
-taken d = taken_all d.bytes.now d.pieces.now
-
-abbrev pub PiecesOk : Dictionaries → Type 0
-PiecesOk d = AllByRecursion (PieceOk d.bytes.now) d.pieces.now
-
-abbrev pub HasSlot : Dictionaries → Slot → Type 0
-HasSlot d s = SlotIn d.pieces.now s
+-- all pieces keep their rules
+abbrev pub PiecesOk : List ℕ → List Piece → Type 0
+PiecesOk bs ps = All (PieceOk bs) ps
 
 -- rows f to f + n - 1 of the column at place q, as a piece: its tests by rising number
 abbrev pub piece_answer : List ℕ → List Record → ℕ → ℕ → ℕ → Result Piece PieceFault

@@ -1,15 +1,14 @@
 -- The merge of stretches of columns in any memory: first the pieces, then the merge.
-use Rattle.std.specs.Prelude.{◌≡◌, ℕ, ◌+◌, cond, List, [], ◌∷◌, length, take, Ok, Err, Result, nat_lt}
-use Rattle.std.specs.List.{AllByRecursion}
-use Rattle.records.specs.declared.Record.{Record}
-use Rattle.records.specs.declared.Slot.{Slot}
+use Rattle.std.specs.Prelude.{◌≡◌, ℕ, ◌+◌, cond, List, [], ◌∷◌, length, Ok, Err, Result, nat_lt}
+use Rattle.records.specs.declared.record.Record.{Record}
+use Rattle.records.specs.declared.slot.Slot.{Slot}
 use Rattle.dictionary.specs.declared.piece.Piece.{Piece}
 use Rattle.dictionary.specs.declared.piece.PieceFault.{PieceFault}
 use Rattle.dictionary.specs.declared.merge.MergeFault.{MergeFault}
-use Rattle.dictionary.specs.declared.pieces.Stretch.{Stretch}
+use Rattle.columns.specs.declared.stretch.Stretch.{Stretch}
 use Rattle.dictionary.specs.declared.pieces.PiecesFault.{PiecesFault}
 use Rattle.dictionary.specs.declared.pieces.PiecesFault.TheVariants as fault
-use Rattle.dictionary.specs.Pieces.{taken_all, piece_answer, PieceOk}
+use Rattle.dictionary.specs.Pieces.{taken_all, piece_answer}
 use Rattle.dictionary.specs.Merges.{most_key, MergeContract}
 
 -- a piece before others: the first that cannot be taken decides
@@ -26,11 +25,6 @@ pieces_from i bs rs (s ∷ ss) = with_piece i (piece_answer bs rs s.place s.firs
 -- at most 64 of them
 abbrev pub pieces_of : List ℕ → List Record → List Stretch → Result (List Piece) PiecesFault
 pieces_of bs rs ss = cond (nat_lt 64 (length ss)) (Err fault.Crowd) (pieces_from 0 bs rs ss)
-
--- a table of pieces begins with them
-abbrev pub Takes : Result ℕ PiecesFault → List ℕ → List Record → List Stretch → List Piece → Type 0
-Takes (Ok n) bs rs ss table = (n ≡ length ss) × (pieces_from 0 bs rs ss ≡ Ok (take n table)) × AllByRecursion (PieceOk bs) (take n table)
-Takes (Err f) bs rs ss table = pieces_from 0 bs rs ss ≡ Err f
 
 abbrev pub as_merge : Result ℕ MergeFault → Result ℕ PiecesFault
 as_merge (Ok n) = Ok n

@@ -1,12 +1,14 @@
 -- The lent tables of an interner, and what they stand for.
 use Rattle.std.specs.Prelude.{◌≡◌, ℕ, zero, suc, ◌*◌, ◌^◌, ◌<◌, ◌≤◌, Bool, cond, List, [], ◌∷◌, length, Some, None, Option, ◌==◌, slice_index, slice_index_or, slice_set}
+use Rattle.std.specs.Borrow.{MutBor}
 use Rattle.std.specs.List.{AllByRecursion}
-use Rattle.records.specs.declared.Slot.{Slot}
+use Rattle.records.specs.declared.slot.Slot.{Slot}
 use Rattle.interning.specs.Values.{Value, same_value}
 use Rattle.interning.specs.Interning.{is_new, number_of, entries_with}
 use Rattle.interning.specs.Merging.{Taken, slot, points_to, is_used, value_of, slot_bucket, same_slot, count_of_buckets}
 use Rattle.dictionary.specs.declared.piece.Piece.{Piece}
-use Rattle.dictionary.specs.declared.piece.Dictionaries.{Dictionaries}
+use Rattle.dictionary.specs.declared.dictionaries.Dictionaries.{Dictionaries}
+use Rattle.dictionary.specs.declared.tables.Tables.{Tables}
 use Rattle.dictionary.specs.declared.interner.Interner.{Interner}
 use Rattle.dictionary.specs.Pieces.{taken_all, SlotIn}
 
@@ -72,9 +74,20 @@ pub record Interns (hash : List ℕ → ℕ) (ts : List Taken) (es : List Slot) 
   pub fresh : new ≡ is_new (same_slot same_value ts) (slot_bucket hash ts) s es
   pub entries : after ≡ entries_with (same_slot same_value ts) (slot_bucket hash ts) s es
 
+-- the same lent memory
+pub record SameMemory {X : Type 0} (s t : MutBor (List X)) : Type 0 where
+  pub name : t.ghost_name ≡ s.ghost_name
+  pub long : length t.now ≡ length s.now
+
+pub record SameTables (s t : Tables) : Type 0 where
+  pub keys : SameMemory s.keys t.keys
+  pub buckets : SameMemory s.buckets t.buckets
+  pub chosen : SameMemory s.chosen t.chosen
+
 -- both hold the same lent tables
-abbrev pub SameTables : Interner → Interner → Type 0
-SameTables i j = (j.buckets.ghost_name ≡ i.buckets.ghost_name) × (j.chosen.ghost_name ≡ i.chosen.ghost_name)
+pub record SameLent (i j : Interner) : Type 0 where
+  pub buckets : SameMemory i.buckets j.buckets
+  pub chosen : SameMemory i.chosen j.chosen
 
 -- the entries so far of an interner, and that its tables stand for them
 abbrev pub so_far : Interner → List Slot
@@ -82,3 +95,9 @@ so_far i = entries_in i.chosen.now i.entries
 
 abbrev pub Stands : (List ℕ → ℕ) → Dictionaries → Interner → Type 0
 Stands hash d i = Standing hash d.bytes.now d.pieces.now i.buckets.now i.chosen.now i.entries i.shift
+
+-- after some slots: the same lent tables, which stand for the entries, and a hash of the same meaning
+pub record Kept (hash hash' : List ℕ → ℕ) (d : Dictionaries) (i j : Interner) : Type 0 where
+  pub stands : Stands hash d j
+  pub lent : SameLent i j
+  pub same : hash' ≡ hash

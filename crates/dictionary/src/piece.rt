@@ -1,115 +1,67 @@
 ghost use Rattle.std.specs.Prelude.{◌≡◌, ◌+◌, ◌<◌, [], ◌∷◌, length, ◌==◌};
-ghost use Rattle.format.specs.Trees.{rec_at};
 ghost use Rattle.format.specs.Rules.{both, one_of};
-ghost use Rattle.interning.specs.Merging.{value_of};
-ghost use Rattle.dictionary.specs.Pieces.{seen, taken, PiecesOk, HasSlot, PieceContract};
+ghost use Rattle.dictionary.specs.declared.piece.PieceFault.TheVariants.{Malformed};
+ghost use Rattle.dictionary.specs.Pieces.{PieceContract};
 
-use column_check::first_broken;
-use columns::{is_outside, value, windowed};
-use records::{Record, Slot};
+use column_check::{Broken, Column, record_at};
+use columns::Stretch;
+use records::{Kind, Record};
 
-// What stands for a record beyond the last.
-const NOTHING: Record = Record {
-    root: 0,
-    kind: 0,
-    width: 0,
-    logic: 0,
-    size: 0,
-    span: 0,
-    start: 0,
-    length: 0,
-    nulls: 0,
-    v: 0,
-    a: 0,
-    b: 0,
-    count: 0,
-};
-
-// A piece of a dictionary column: the dictionary's record, with the piece for its window, and the record of its entries.
-#[derive(Clone, Copy)]
+/// A piece of a dictionary column: the dictionary's record, with the piece for its window, and the record of its entries.
+#[derive(Clone, Copy, Debug, Default, PartialEq, Eq)]
 pub struct Piece {
     pub keys: Record,
     pub entries: Record,
 }
 
-pub(super) const NO_PIECE: Piece = Piece {
-    keys: NOTHING,
-    entries: NOTHING,
-};
-
-// Pieces of dictionaries, one for each input, over the bytes that they lie in.
-#[derive(Clone, Copy)]
-pub struct Dictionaries<'m> {
-    pub bytes: &'m [u8],
-    pub pieces: &'m [Piece],
-}
-
-impl<'m> Dictionaries<'m> {
-    // The value of a slot.
-    pub(super) fn value(&self, slot: Slot) -> Option<&'m [u8]>
-        requires ok { PiecesOk self.now }
-        requires slot { HasSlot self.now slot }
-        ensures { seen result ≡ value_of (taken self.now) slot }
-    {
-        value(
-            self.bytes,
-            self.pieces[slot.input as usize].entries,
-            slot.entry,
-        )
-    }
-}
-
-// Why a piece of a column cannot be taken: a record of the column breaks a rule, the stretch lies outside, or the column is no dictionary
-// over flat or byte entries.
-#[derive(Clone, Copy)]
+/// Why a piece of a column cannot be taken.
+#[derive(Clone, Copy, Debug, PartialEq, Eq)]
 pub enum PieceFault {
+    /// A record of the column breaks a rule.
     Malformed { record: u64 },
+    /// The stretch lies outside the column.
     Outside,
+    /// The column is no dictionary over flat or byte entries.
     Kind,
+}
+
+impl From<Broken> for PieceFault {
+    ghost from_gives = { λ b f. f ≡ Malformed b.record };
+
+    fn from(broken: Broken) -> PieceFault {
+        PieceFault::Malformed {
+            record: broken.record,
+        }
+    }
 }
 
 // A dictionary over flat or byte entries.
 fn is_leafed(keys: Record, entries: Record) -> bool
     ensures { result ≡ both (keys.kind == 4) (one_of entries.kind (1 ∷ 3 ∷ [])) }
 {
-    keys.kind == 4 && (entries.kind == 1 || entries.kind == 3)
+    matches!(Kind::try_from(keys.kind), Ok(Kind::Dictionary))
+        && matches!(Kind::try_from(entries.kind), Ok(Kind::Flat | Kind::Bytes))
 }
 
-// The record after the one at q, where there is one.
-fn next_record(records: &[Record], q: usize) -> Record
-    requires { q < length records.now }
-    ensures { result ≡ rec_at records.now (q + 1) }
-{
-    if q + 1 < records.len() {
-        records[q + 1]
-    } else {
-        NOTHING
-    }
-}
-
-// The rows `first` to first + rows − 1 of the column at `place`, as a piece; the column is checked.
+/// The rows of a stretch, as a piece; the column is checked.
 pub fn dictionary_piece(
     records: &[Record],
     bytes: &[u8],
-    place: u64,
-    first: u64,
-    rows: u64,
+    stretch: Stretch,
 ) -> Result<Piece, PieceFault>
-    ensures { PieceContract result bytes.now records.now place first rows }
+    ensures { PieceContract result bytes.now records.now stretch.place stretch.first stretch.rows }
 {
-    if let Some(record) = first_broken(records, bytes, place) {
-        return Err(PieceFault::Malformed { record });
-    }
-    let keys = records[place as usize];
-    if is_outside(keys.length, first, rows) {
+    let column = Column::check(records, bytes, stretch.place)?;
+    let keys = column.root();
+    if stretch.is_outside(keys.length) {
         return Err(PieceFault::Outside);
     }
-    let entries = next_record(records, place as usize);
+    let entries = record_at(records, column.place + 1);
     if !is_leafed(keys, entries) {
         return Err(PieceFault::Kind);
     }
     Ok(Piece {
-        keys: windowed(keys, first, rows),
+        keys: stretch.windowed(keys),
         entries,
     })
 }

@@ -2,7 +2,7 @@
 -- the mark: slice, admit, and every later call.
 use Rattle.std.proofs.Common.{◌≡◌, ℕ, suc, ◌+◌, ◌-◌, ◌*◌, ◌/◌, ◌<◌, ◌≤◌, Bool, true, false, cond, eqb, leb, List, [], ◌∷◌, length, sym, refl, ◌∙◌, subst, ap₂, mul-le-mul_right, arith}
 use Rattle.std.specs.List.{range_with_len}
-use Rattle.records.specs.declared.Record.{Record}
+use Rattle.records.specs.declared.record.Record.{Record}
 use Rattle.numbers.specs.Little.{number_at, not_negative}
 use Rattle.numbers.specs.Bits.{bit_bytes}
 use Rattle.format.specs.Meaning.{Kind, flat, bits, bytes, dictionary, list, structs, runs, other, kind_of, is_null, ends_of}

@@ -1,7 +1,7 @@
 -- What is found in a row is the row, and its bytes end at or below the mark.
 use Rattle.std.proofs.Common.{◌≡◌, ℕ, ◌+◌, ◌-◌, ◌<◌, ◌≤◌, Bool, true, false, cond, List, [], ◌∷◌, ◌++◌, length, take, drop, sym, refl, ap, ◌∙◌, subst, arith}
 use Rattle.std.specs.List.{AllByRecursion}
-use Rattle.records.specs.declared.Record.{Record}
+use Rattle.records.specs.declared.record.Record.{Record}
 use Rattle.format.specs.Rows.{Row, null, raw, first}
 use Rattle.format.specs.Trees.{Forest, end, node, preorder, tops, rec_at}
 use Rattle.format.specs.Meaning.{Kind, flat, bits, bytes, dictionary, list, structs, runs, other, kind_of, is_null, number, ends_of, run_of, value_at, decode, row}
@@ -19,7 +19,7 @@ SomeTree end = ⊥
 SomeTree (node r kids next) = Unit {0}
 
 has_tree : (F : Forest) (k : Record) → tops F ≡ k ∷ [] → SomeTree F
-has_tree end k e = let z : ◌≡◌ {A = ℕ} 0 1 = cc in absurd (omega arith)
+has_tree end k e = absurd (cc)
 has_tree (node r kids next) k e = tt
 
 module _ (bs : List ℕ) (r : Record) (kid : ℕ → Found) (ks : Forest) (kids : ℕ → List Row) where

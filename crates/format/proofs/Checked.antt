@@ -1,7 +1,7 @@
 -- A column that passes the check is a tree of records that keep their rules, and the other way round.
 use Rattle.std.proofs.Common.{◌≡◌, ℕ, zero, suc, ◌+◌, ◌-◌, ◌<◌, ◌≤◌, Bool, true, false, cond, eqb, ltb, leb, List, [], ◌∷◌, ◌++◌, map, length, get_or, take, drop, sym, refl, ap, ◌∙◌, subst, ap₂, zero-add, arith}
 use Rattle.std.specs.List.{AllByRecursion}
-use Rattle.records.specs.declared.Record.{Record}
+use Rattle.records.specs.declared.record.Record.{Record}
 use Rattle.format.specs.Trees.{Forest, end, node, records_of, preorder, tops, parse, first_tree, nothing, rec_at}
 use Rattle.format.specs.Meaning.{column_at}
 use Rattle.format.specs.Rules.{all_of, total, record_rules, trees_from, children_at, ruled_at, ok_at, root_rules, inner_ok, WellFormed}
@@ -102,9 +102,9 @@ module _ (bs : List ℕ) (rs : List Record) where
           )
 
 lone : (F : Forest) (r : Record) → tops F ≡ r ∷ [] → (K : Forest) × (F ≡ node r K end)
-lone end r e = let z : ◌≡◌ {A = ℕ} 0 1 = cc in absurd (omega arith)
+lone end r e = absurd (cc)
 lone (node x K end) r e = let z : x ≡ r = cc in (K, ap (λ y. node y K end) z)
-lone (node x K (node y a b)) r e = let z : ◌≡◌ {A = List Record} (y ∷ tops b) [] = cc in let z : ◌≡◌ {A = ℕ} 0 1 = cc in absurd (omega arith)
+lone (node x K (node y a b)) r e = let z : ◌≡◌ {A = List Record} (y ∷ tops b) [] = cc in absurd (cc)
 
 -- a column that passes the check, as a tree of records that keep their rules
 pub record Checked (rs : List Record) (bs : List ℕ) (q : ℕ) : Type 0 where

@@ -1,7 +1,7 @@
 -- What the rules of a record say of its buffers and children, as facts.
 use Rattle.std.proofs.Common.{◌≡◌, ℕ, suc, ◌+◌, ◌-◌, ◌*◌, ◌<◌, ◌≤◌, Bool, true, false, cond, eqb, leb, List, [], ◌∷◌, length, sym, refl, ap, arith}
 use Rattle.std.specs.List.{AllByRecursion}
-use Rattle.records.specs.declared.Record.{Record}
+use Rattle.records.specs.declared.record.Record.{Record}
 use Rattle.numbers.specs.Bits.{bit_bytes}
 use Rattle.format.specs.Meaning.{Kind, flat, bits, bytes, dictionary, list, structs, runs, other, kind_of, is_null, number, ends_of, run_of}
 use Rattle.format.specs.Rules.{all_of, zeros, last, rises, end_of, room, offset_rules, one_child, kind_rules, record_rules}

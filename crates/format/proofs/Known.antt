@@ -1,6 +1,6 @@
 -- What the records of a well-formed column are known to have: places in the memory, and windows that end low enough.
 use Rattle.std.proofs.Common.{◌≡◌, ℕ, zero, suc, ◌+◌, ◌-◌, ◌*◌, ◌<◌, ◌≤◌, Bool, true, false, cond, eqb, leb, List, [], ◌∷◌, length, get_or, refl, arith}
-use Rattle.records.specs.declared.Record.{Record}
+use Rattle.records.specs.declared.record.Record.{Record}
 use Rattle.numbers.specs.Bits.{bit_bytes}
 use Rattle.format.specs.Trees.{rec_at}
 use Rattle.format.specs.Meaning.{Kind, flat, bits, bytes, dictionary, list, structs, runs, other, kind_of}

@@ -2,7 +2,7 @@
 -- rows.
 use Rattle.std.proofs.Common.{◌≡◌, ℕ, ◌+◌, ◌-◌, ◌*◌, ◌/◌, ◌%◌, ◌^◌, ◌<◌, ◌≤◌, Bool, true, false, cond, eqb, List, [], ◌∷◌, ◌++◌, map, length, get_or, take, drop, sym, refl, ap, ◌∙◌, subst, ap₂, add-zero, add_assoc, zero-add, arith}
 use Rattle.std.specs.List.{between, AllByRecursion, range_with_len}
-use Rattle.records.specs.declared.Record.{Record}
+use Rattle.records.specs.declared.record.Record.{Record}
 use Rattle.numbers.specs.Little.{little, number_at}
 use Rattle.numbers.specs.Bits.{bit_at, bit_bytes}
 use Rattle.format.specs.Rows.{Row, null, raw, bit, listed, struct, rows, first}

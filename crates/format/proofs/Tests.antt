@@ -4,7 +4,7 @@ use Rattle.std.specs.List.{AllByRecursion, range_with_len}
 use Rattle.format.specs.Rules.{both, all_of, every, first_not}
 
 pub no_way : {A : Type 0} → false ≡ true → A
-no_way e = let z : ◌≡◌ {A = ℕ} 0 1 = cc in absurd (omega arith)
+no_way e = absurd (cc)
 
 pub sub_true : (x y : Bool) → both x y ≡ true → (x ≡ true) × (y ≡ true)
 sub_true true y h = (refl, h)
@@ -59,11 +59,11 @@ none_not f a (suc n) h j l b = go (f a) refl h (none_not f (a + 1) n)
     go : (t : Bool) → f a ≡ t → cond t (first_not f (range_with_len (a + 1) n)) (Some a) ≡ None
         → (first_not f (range_with_len (a + 1) n) ≡ None → (j : ℕ) → a + 1 ≤ j → j < a + 1 + n → f j ≡ true) → f j ≡ true
     go true t h ih = at (j - a) (omega arith) t (ih h j)
-    go false t h ih = let z : ◌≡◌ {A = ℕ} 0 1 = cc in absurd (omega arith)
+    go false t h ih = absurd (cc)
 
 pub passed : (b : Bool) (x : Option ℕ) → cond b x (Some 0) ≡ None → (b ≡ true) × (x ≡ None)
 passed true x h = (refl, h)
-passed false x h = let z : ◌≡◌ {A = ℕ} 0 1 = cc in absurd (omega arith)
+passed false x h = absurd (cc)
 
 pub map-range_with_len : {A : Type 0} (f g : ℕ → A) (a b n : ℕ) → ((k : ℕ) → k < n → f (a + k) ≡ g (b + k))
     → map f (range_with_len a n) ≡ map g (range_with_len b n)

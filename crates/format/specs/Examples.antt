@@ -1,7 +1,7 @@
 -- Small columns, worked out by the checker from the definitions.
 use Rattle.std.specs.Prelude.{◌≡◌, ℕ, true, false, List, [], ◌∷◌, map, Some, None, slice_set}
 use Rattle.std.specs.List.{range_with_len}
-use Rattle.records.specs.declared.Record.{Record}
+use Rattle.records.specs.declared.record.Record.{Record}
 use Rattle.format.specs.Rows.{Row, null, raw, bit, listed, struct, rows}
 use Rattle.format.specs.Meaning.{row}
 use Rattle.format.specs.Rules.{WellFormed, first_broken}

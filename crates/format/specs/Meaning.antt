@@ -1,7 +1,7 @@
 -- What a column means: row i of the column at a place, by the Apache Arrow Columnar Format. `bs` is the byte memory.
 use Rattle.std.specs.Prelude.{ℕ, ◌+◌, ◌-◌, ◌*◌, Bool, true, false, cond, List, [], ◌∷◌, map, take, drop, ◌==◌, nat_le}
 use Rattle.std.specs.List.{prefix_len, between, range_with_len}
-use Rattle.records.specs.declared.Record.{Record}
+use Rattle.records.specs.declared.record.Record.{Record}
 use Rattle.numbers.specs.Little.{number_at}
 use Rattle.numbers.specs.Bits.{bit_at}
 use Rattle.format.specs.Rows.{Row, null, raw, bit, listed, struct, rows, first}

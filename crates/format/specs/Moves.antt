@@ -1,6 +1,6 @@
 -- Records with another window, and records whose bytes lie elsewhere.
 use Rattle.std.specs.Prelude.{ℕ, ◌+◌, ◌-◌, cond, List, ◌∷◌, ◌==◌}
-use Rattle.records.specs.declared.Record.{Record}
+use Rattle.records.specs.declared.record.Record.{Record}
 use Rattle.numbers.specs.Puts.{part}
 use Rattle.format.specs.Trees.{rec_at}
 

@@ -1,6 +1,6 @@
 -- Two columns with the same rows, in one memory or in two.
 use Rattle.std.specs.Prelude.{◌≡◌, ℕ, ◌+◌, ◌<◌, List}
-use Rattle.records.specs.declared.Record.{Record}
+use Rattle.records.specs.declared.record.Record.{Record}
 use Rattle.format.specs.Meaning.{row, row_count}
 use Rattle.format.specs.Rules.{WellFormed}
 

@@ -2,7 +2,7 @@
 -- up to its mark, `rs` the record memory up to its mark.
 use Rattle.std.specs.Prelude.{◌≡◌, ℕ, zero, suc, ◌+◌, ◌-◌, ◌*◌, Bool, true, false, cond, nat_le, List, [], ◌∷◌, length, Some, None, Option, ◌==◌, nat_eq, nat_lt}
 use Rattle.std.specs.List.{range_with_len}
-use Rattle.records.specs.declared.Record.{Record}
+use Rattle.records.specs.declared.record.Record.{Record}
 use Rattle.numbers.specs.Little.{not_negative}
 use Rattle.numbers.specs.Bits.{bit_bytes}
 use Rattle.format.specs.Trees.{rec_at}

@@ -1,6 +1,6 @@
 -- The trees that records spell, each parent before its children.
 use Rattle.std.specs.Prelude.{ℕ, zero, suc, ◌+◌, ◌-◌, List, [], ◌∷◌, ◌++◌, slice_index_or}
-use Rattle.records.specs.declared.Record.{Record}
+use Rattle.records.specs.declared.record.Record.{Record}
 
 -- trees side by side: a record, its children, the trees after it
 pub data Forest : Type 0 where

@@ -1,6 +1,6 @@
 -- Types are equal where span, kind, width, logic and size agree record by record.
 use Rattle.std.specs.Prelude.{ℕ, ◌+◌, Bool, cond, List, [], ◌∷◌, take, drop, Some, None, Option, ◌==◌}
-use Rattle.records.specs.declared.Record.{Record}
+use Rattle.records.specs.declared.record.Record.{Record}
 use Rattle.format.specs.Trees.{rec_at}
 use Rattle.format.specs.Rules.{all_of}
 

@@ -8,18 +8,14 @@ const BASIS: u64 = 14695981039346656037;
 const PRIME: u64 = 1099511628211;
 
 /// FNV-1a with 64 bits. Every byte of a string counts, and short strings are quick.
-#[derive(Clone, Copy)]
-pub struct Fnv1a {}
+#[derive(Clone, Copy, Debug, Default, PartialEq, Eq)]
+pub struct Fnv1a;
 
 impl Hash for Fnv1a {
     ghost meaning = { λ _ bs. fnv1a bs };
 
     fn hash(&mut self, bytes: &[u8]) -> u64 {
-        let mut h = BASIS;
-        for b in bytes {
-            h = mixed(h, *b);
-        }
-        h
+        bytes.iter().fold(BASIS, |h, b| mixed(h, *b))
     }
 }
 

@@ -2,7 +2,7 @@ ghost use Rattle.std.specs.Prelude.{◌≡◌, ℕ, List};
 
 /// A hash of strings of bytes.
 pub trait Hash {
-    // The meaning of a hash: a function from strings of bytes to 64-bit numbers.
+    /// The meaning of a hash: a function from strings of bytes to 64-bit numbers.
     ghost meaning: { Self → List ℕ → ℕ };
 
     /// The number of a string. The call may change what the hash holds, since an implementation may keep state such as

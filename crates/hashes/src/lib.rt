@@ -1,4 +1,4 @@
-// What a hash is, and two of them. Each is proved to give the number of its definition in `specs/Hashes.antt`.
+//! What a hash is, and two of them. Each is proved to give the number of its definition in `specs/Hashes.antt`.
 #![tactic(auto)]
 
 mod fnv;

@@ -1,9 +1,9 @@
 -- Merging: what Promises.Merged says holds.
 use Rattle.std.proofs.Common.{◌≡◌, ℕ, zero, suc, ◌+◌, ◌<◌, ◌≤◌, Bool, true, false, cond, eqb, List, [], ◌∷◌, length, get_or, take, Some, None, Option, sym, refl, ap, ◌∙◌, subst, ap₂, arith}
-use Rattle.std.proofs.lemmas.Bool.{eqb-true, eq-eqb, false≢true}
-use Rattle.std.proofs.ByRecursion.{All-get_or, kept_by_passes}
+use Rattle.std.proofs.lemmas.Bool.{eqb-true, eq-eqb}
+use Rattle.std.proofs.lemmas.List.Elements.{filter_passes}
 use Rattle.std.proofs.lemmas.List.{length-map, get_or-map}
-use Rattle.records.specs.declared.Slot.{Slot}
+use Rattle.records.specs.declared.slot.Slot.{Slot}
 use Rattle.interning.specs.Values.{Value, Sameness}
 use Rattle.interning.specs.Interning.{numbers_of}
 use Rattle.interning.specs.Merging.{Taken, points_to, slot, slots_of, input_at, value_of, is_used, used_slots, same_slot, slot_bucket, chosen_slots, merged_entries, slot_keys, key_of}
@@ -14,7 +14,7 @@ use Rattle.interning.proofs.Walks.{slots_at, slots_found, key_used, used_key}
 -- a row's key points to its entry
 pub points_to_lem : (ks : List (Option ℕ)) (r j : ℕ) → r < length ks → get_or ks r None ≡ Some j → points_to j ks ≡ true
 points_to_lem [] r j l h = absurd (omega arith)
-points_to_lem (None ∷ ks) zero j l h = let z : ◌≡◌ {A = ℕ} 0 1 = cc in absurd (omega arith)
+points_to_lem (None ∷ ks) zero j l h = absurd cc
 points_to_lem (None ∷ ks) (suc r) j l h = points_to_lem ks r j (omega arith) h
 points_to_lem (Some k ∷ ks) zero j l h = let e : k ≡ j = cc in ap (λ t. cond t true (points_to j ks)) (eq-eqb k j e)
 points_to_lem (Some k ∷ ks) (suc r) j l h = go (eqb k j) (points_to_lem ks r j (omega arith) h)
@@ -25,7 +25,7 @@ points_to_lem (Some k ∷ ks) (suc r) j l h = go (eqb k j) (points_to_lem ks r j
 
 -- an entry that is pointed to is some row's
 pub points_from : (ks : List (Option ℕ)) (j : ℕ) → points_to j ks ≡ true → (r : ℕ) × (r < length ks) × (get_or ks r None ≡ Some j)
-points_from [] j h = absurd (false≢true h)
+points_from [] j h = absurd cc
 points_from (None ∷ ks) j h = let r = points_from ks j h in (suc r.0, omega (arith, r.1), r.2)
 points_from (Some k ∷ ks) j h = go (eqb k j) refl h (points_from ks j)
   where
@@ -86,7 +86,7 @@ module _ (same : Value → Value → Bool) (hash : List ℕ → ℕ) (laws : Sam
       let p = slots_found 0 ts r.0 r.1.0 in
       let w = slots_at ts p.0 p.1 d p.2 p.3 in
       let here : get_or (used_slots ts) f.0 d ≡ slot p.0 p.1 = sym r.1.2 ∙ ap (λ k. get_or (slots_of ts) k d) p.4 ∙ w.1 in
-      let passes = All-get_or (λ s. is_used ts s ≡ true) (used_slots ts) f.0 d f.1 (kept_by_passes (is_used ts) (slots_of ts)) in (
+      let passes = filter_passes (is_used ts) (slots_of ts) f.0 d f.1 in (
         p.0,
         p.1,
         p.2,

@@ -5,6 +5,7 @@ use Rattle.std.specs.List.{ContainsAt as Has, AllByRecursion}
 use Rattle.std.proofs.lemmas.Bool.{eqb-true, eqb-false, both_ways, cases_lt, cond_both}
 use Rattle.std.proofs.ByRecursion.{All-get_or, all_has_itself}
 use Rattle.std.proofs.lemmas.List.{length-reverse, get_or-reverse}
+use Rattle.std.proofs.lemmas.Bool.Decides.{same_from_decides}
 use Rattle.interning.specs.Values.{Sameness}
 use Rattle.interning.specs.Interning.{last_in, number_in, differs, is_new, number_of, entries_with, numbers_of, entries_after}
 use Rattle.interning.specs.Promises.{Separates, Interned}
@@ -55,13 +56,13 @@ module _ {V : Type 0} (same : V → V → Bool) (bucket : V → ℕ) where
   -- the last entry of a bucket is the one at its number
   last_right : (b : ℕ) (es : List V) (e d : V) → last_in bucket b es ≡ Some e
       → (number_in bucket b es < length es) × (entry es (number_in bucket b es) d ≡ e)
-  last_right b [] e d h = let z : ◌≡◌ {A = ℕ} 0 1 = cc in absurd (omega arith)
+  last_right b [] e d h = absurd cc
   last_right b (x ∷ es) e d h = go (eqb (bucket x) b) h (last_right b es e d)
     where
       go : (t : Bool) → cond t (Some x) (last_in bucket b es) ≡ Some e
           → (last_in bucket b es ≡ Some e → (number_in bucket b es < length es) × (entry es (number_in bucket b es) d ≡ e))
           → (cond t (length es) (number_in bucket b es) < suc (length es)) × (entry (x ∷ es) (cond t (length es) (number_in bucket b es)) d ≡ e)
-      go true h ih = (omega arith, entry_new x es d ∙ (cc))
+      go true h ih = (omega arith, entry_new x es d ∙ cc)
       go false h ih = let r = ih h in (omega arith, entry_kept x es (number_in bucket b es) d r.0 ∙ r.1)
 
   module _ (laws : Sameness same) where
@@ -142,12 +143,9 @@ module _ {V : Type 0} (same : V → V → Bool) (bucket : V → ℕ) where
 
     -- values that are the same are the same as, or differ from, a third
     same_both : (x y v : V) → same x y ≡ true → same x v ≡ same y v
-    same_both x y v e = go (same x v) (same y v) (λ h. laws.transitive y x v (laws.symmetric x y e) h) (λ h. laws.transitive x y v e h)
-      where
-        go : (s t : Bool) → (s ≡ true → t ≡ true) → (t ≡ true → s ≡ true) → s ≡ t
-        go true t f g = sym (f refl)
-        go false true f g = g refl
-        go false false f g = refl
+    same_both x y v e =
+        same_from_decides {P = same x v ≡ true} (same x v) (same y v) (λ h. h, λ h. h)
+        (λ h. laws.transitive x y v e h, λ h. laws.transitive y x v (laws.symmetric x y e) h)
 
     -- where buckets are alike, a value differs from both or from neither
     differs_alike : (v : V) (o p : Option V) → Alike o p → differs same v o ≡ differs same v p

@@ -1,15 +1,14 @@
 -- Equality of bytes, on values.
 use Rattle.std.proofs.Common.{◌≡◌, true, Some, None, sym, refl, ap, ◌∙◌}
 use Rattle.std.proofs.lemmas.Slice.Eq.{bytes_eq-Decides}
-use Rattle.std.proofs.lemmas.Bool.{false≢true}
 use Rattle.interning.specs.Values.{Value, same_value}
 use Rattle.interning.specs.Promises.{Equality}
 
 -- values that are found the same are equal
 pub value_told : (a b : Value) → same_value a b ≡ true → a ≡ b
 value_told None None h = refl
-value_told None (Some y) h = absurd (false≢true h)
-value_told (Some x) None h = absurd (false≢true h)
+value_told None (Some y) h = absurd cc
+value_told (Some x) None h = absurd cc
 value_told (Some x) (Some y) h = ap Some ((bytes_eq-Decides x y).0 h)
 
 -- a value is found the same as itself

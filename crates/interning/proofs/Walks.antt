@@ -4,7 +4,7 @@ use Rattle.std.specs.List.{range_with_len}
 use Rattle.std.proofs.lemmas.Bool.{cases_lt, both_ways}
 use Rattle.std.proofs.lemmas.List.{length-append, get_or_append_left, get_or-append-add}
 use Rattle.std.proofs.lemmas.List.FromFn.{length-map-range_with_len, get_or-map-range_with_len}
-use Rattle.records.specs.declared.Slot.{Slot}
+use Rattle.records.specs.declared.slot.Slot.{Slot}
 use Rattle.interning.specs.Values.{Value}
 use Rattle.interning.specs.Interning.{number_of, numbers_of, entries_with, entries_after}
 use Rattle.interning.specs.Merging.{Taken, input_at, slot, slots_from, slots_of, is_used, same_slot, slot_bucket, key_here, keys_from, stepped, walked}

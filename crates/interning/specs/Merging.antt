@@ -1,7 +1,7 @@
 -- Merged dictionaries: the entries are the interned values of the used slots, and a key is its slot's entry number.
 use Rattle.std.specs.Prelude.{ℕ, ◌+◌, Bool, true, false, cond, List, [], ◌∷◌, ◌++◌, map, length, take, Some, None, filter, Option, ◌==◌, slice_index_or}
 use Rattle.std.specs.List.{range_with_len}
-use Rattle.records.specs.declared.Slot.{Slot}
+use Rattle.records.specs.declared.slot.Slot.{Slot}
 use Rattle.interning.specs.Values.{Value}
 use Rattle.interning.specs.Buckets.{buckets_for, bucket_among}
 use Rattle.interning.specs.Interning.{number_of, entries_with, entries_of}

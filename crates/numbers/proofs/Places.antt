@@ -1,8 +1,8 @@
-use Rattle.std.proofs.Common.{◌≡◌, ℕ, ◌+◌, ◌-◌, ◌<◌, ◌≤◌, List, [], ◌∷◌, ◌++◌, length, get_or, take, drop, set, replicate, sym, refl, ap, ◌∙◌, add-zero, add-one, arith}
+use Rattle.std.proofs.Common.{◌≡◌, ℕ, ◌+◌, ◌-◌, ◌<◌, ◌≤◌, List, [], ◌∷◌, ◌++◌, length, take, drop, set, sym, refl, ap, ◌∙◌, add-zero, add-one, arith}
 use borrow.Rule.Slice.PartMut.{put_mid}
 use lib.Seq.{paste}
-use Rattle.std.proofs.lemmas.List.{drop-drop, append_assoc, length-append, length-take-le, length-drop, take-append-drop, take-append-le, get_or-take, get_or-drop, take-take, drop-take, get_or_append_left, length-replicate, get_or-replicate, set_split}
-use Rattle.std.proofs.lemmas.List.Edits.{paste-paste, paste_all, paste_more}
+use Rattle.std.proofs.lemmas.List.{drop-drop, length-append, length-take-le, length-drop, take-append-drop, take-append-le, take-take, drop-take, set_split}
+use Rattle.std.proofs.lemmas.List.Edits.{paste-paste, paste_all}
 use Rattle.numbers.specs.Puts.{put, part}
 
 -- a write to `&mut xs[a..a + k]` is a `put`
@@ -44,28 +44,6 @@ pub take_put : {X : Type 0} (m at : ℕ) (s d : List X) → m ≤ at → at ≤ 
 take_put m at s d le within =
     let long = length-take-le at d within in
     take-append-le m (take at d) (s ++ drop (at + length s) d) (omega arith) ∙ take-take m at d le
-
--- an element that is copied up
-pub copy_step : {X : Type 0} (z : X) (d : List X) (from n at i : ℕ) → from + n ≤ at → at + n ≤ length d → i < n
-    → set (paste d at (part d from n) i) (at + i) (get_or (paste d at (part d from n) i) (from + i) z) ≡ paste d at (part d from n) (i + 1)
-copy_step z d from n at i le within lt =
-    let long = length_part d from n (omega arith) in
-    let front = length-take-le at d (omega arith) in
-    let here : get_or (paste d at (part d from n) i) (from + i) z ≡ get_or (part d from n) i z =
-    ap (λ x. get_or x (from + i) z) (append_assoc (take at d) (take i (part d from n)) (drop (at + i) d))
-    ∙ get_or_append_left (take at d) (take i (part d from n) ++ drop (at + i) d) z (from + i) (omega arith)
-    ∙ get_or-take at d (from + i) z (omega arith)
-    ∙ sym (get_or-drop from d i z)
-    ∙ sym (get_or-take n (drop from d) i z lt) in
-    ap (set (paste d at (part d from n) i) (at + i)) here
-    ∙ paste_more d at (part d from n) i z (omega arith) (omega arith)
-
--- a zero more
-pub zero_step : (d : List ℕ) (at n i : ℕ) → at + n ≤ length d → i < n → set (paste d at (replicate n 0) i) (at + i) 0 ≡ paste d at (replicate n 0) (i + 1)
-zero_step d at n i within lt =
-    let long = length-replicate {A = ℕ} n 0 in
-    ap (set (paste d at (replicate n 0) i) (at + i)) (sym (get_or-replicate n i 0 0 lt))
-    ∙ paste_more d at (replicate n 0) i 0 (omega arith) (omega arith)
 
 -- one element written is a `put`
 pub set_put : {X : Type 0} (d : List X) (at : ℕ) (x : X) → at < length d → set d at x ≡ put at (x ∷ []) d

@@ -1,108 +1,73 @@
-ghost use Rattle.std.specs.Prelude.{◌≡◌, ℕ, ◌+◌, ◌<◌, ◌≤◌, Bool, true, false, length, Some, Option};
-ghost use Rattle.numbers.specs.Little.{bytes_of, largest, value_of, as_index, reading};
+ghost use Rattle.std.specs.Prelude.{◌≡◌, ℕ, ◌+◌, ◌^◌, ◌<◌, ◌≤◌, Bool, true, false, length, Some, Option};
+ghost use Rattle.numbers.specs.Back.{reads_back};
+ghost use Rattle.numbers.specs.Little.{bytes_of, largest, reading, as_index, value_of};
 ghost use Rattle.numbers.specs.Puts.{part};
 ghost use Rattle.std.proofs.Common.{rules};
 
 use super::memory::read_little;
 
-// An index kind: the type of a dictionary's keys, of offsets or of run ends, by its width in bytes and its sign.
+/// An index kind: the type of a dictionary's keys, of offsets or of run ends, by its width in bytes and its sign.
 pub trait Index {
+    ghost WIDTH: { ℕ };
+
+    /// How many bytes an index takes.
     const WIDTH: usize;
 
+    ghost SIGNED: { Bool };
+
+    /// Whether it has a sign.
     const SIGNED: bool;
 
-    ghost wide: { ℕ };
-
-    ghost minus: { Bool };
-
-    fn wide_by() -> usize
-        ensures { result ≡ wide };
-
-    fn has_sign() -> bool
-        ensures { result ≡ minus };
-
-    // The largest number of the kind.
+    /// The largest number of the kind.
     fn most() -> u64
-        ensures { result ≡ largest minus wide }
+        ensures { result ≡ largest SIGNED WIDTH }
     {
-        largest_of(Self::has_sign(), Self::wide_by())
+        largest_of(Self::SIGNED, Self::WIDTH)
     }
 
-    // The index that the bytes at `at` spell; None where their number is negative.
-    fn read(bytes: &[u8], at: usize) -> Option<u64>
-        requires { at + wide ≤ length bytes.now }
-        ensures { result ≡ reading minus wide (part bytes.now at wide) };
+    /// The number with these low bytes, read as one of the kind; None where it is negative.
+    fn index(bits: u64) -> Option<u64>
+        requires { bits < 256 ^ WIDTH }
+        ensures { result ≡ as_index (value_of SIGNED WIDTH bits) };
 
-    ghost narrow: { (1 ≤ wide) × (wide ≤ 8) };
+    /// The index that the bytes at `at` spell; None where their number is negative.
+    fn read(bytes: &[u8], at: usize) -> Option<u64>
+        requires { at + WIDTH ≤ length bytes.now }
+        ensures { result ≡ reading SIGNED WIDTH (part bytes.now at WIDTH) }
+    {
+        Self::index(read_little(bytes, at, Self::WIDTH))
+    }
+
+    ghost narrow: { (1 ≤ WIDTH) × (WIDTH ≤ 8) };
 
     // a number up to the largest comes back unchanged from its bytes
-    ghost back: { (n : ℕ) → n ≤ largest minus wide → reading minus wide (bytes_of wide n) ≡ Some n };
+    ghost back: { (n : ℕ) → n ≤ largest SIGNED WIDTH → reading SIGNED WIDTH (bytes_of WIDTH n) ≡ Some n } = { reads_back SIGNED WIDTH narrow };
 }
 
-// The largest number by sign and width. It is public for the crates above, which meet what it requires.
+/// The largest number by sign and width. It is public for the crates above, which meet what it requires.
+#[tactic(auto, using(crate::proofs::Numbers::largest_is))]
 pub fn largest_of(signed: bool, width: usize) -> u64
-    requires { (1 ≤ width) × (width ≤ 8) }
+    requires low { 1 ≤ width }
+    requires high { width ≤ 8 }
     ensures { result ≡ largest signed width }
 {
-    let sign = if signed { 1u32 } else { 0 };
-    u64::MAX >> (64 + sign - 8 * width as u32)
+    u64::MAX >> (64 + u32::from(signed) - 8 * width as u32)
 }
 
-// The sign is tested before the cast.
-fn index_of_i8(bits: u8) -> Option<u64>
-    ensures { result ≡ as_index (value_of true 1 bits) }
-{
-    let n = bits.cast_signed();
-    if n < 0 { None } else { Some(n as u64) }
-}
-
-// The sign is tested before the cast.
-fn index_of_i16(bits: u16) -> Option<u64>
-    ensures { result ≡ as_index (value_of true 2 bits) }
-{
-    let n = bits.cast_signed();
-    if n < 0 { None } else { Some(n as u64) }
-}
-
-// The sign is tested before the cast.
-fn index_of_i32(bits: u32) -> Option<u64>
-    ensures { result ≡ as_index (value_of true 4 bits) }
-{
-    let n = bits.cast_signed();
-    if n < 0 { None } else { Some(n as u64) }
-}
-
-// The sign is tested before the cast.
-fn index_of_i64(bits: u64) -> Option<u64>
-    ensures { result ≡ as_index (value_of true 8 bits) }
-{
-    let n = bits.cast_signed();
-    if n < 0 { None } else { Some(n as u64) }
-}
-
+// Each kind gives its constants, and reads as its own type. The gate takes no impls by a macro of the repository's own.
 impl Index for i8 {
     const WIDTH: usize = 1;
 
     const SIGNED: bool = true;
 
-    ghost wide = { 1 };
+    ghost WIDTH = { 1 };
 
-    ghost minus = { true };
+    ghost SIGNED = { true };
 
     ghost narrow = { Prim.search rules };
 
-    ghost back = { Prim.search rules };
-
-    fn wide_by() -> usize {
-        Self::WIDTH
-    }
-
-    fn has_sign() -> bool {
-        Self::SIGNED
-    }
-
-    fn read(bytes: &[u8], at: usize) -> Option<u64> {
-        index_of_i8(read_little(bytes, at, 1) as u8)
+    fn index(bits: u64) -> Option<u64> {
+        u64::try_from((bits as u8).cast_signed()).ok()
     }
 }
 
@@ -111,24 +76,14 @@ impl Index for i16 {
 
     const SIGNED: bool = true;
 
-    ghost wide = { 2 };
+    ghost WIDTH = { 2 };
 
-    ghost minus = { true };
+    ghost SIGNED = { true };
 
     ghost narrow = { Prim.search rules };
 
-    ghost back = { Prim.search rules };
-
-    fn wide_by() -> usize {
-        Self::WIDTH
-    }
-
-    fn has_sign() -> bool {
-        Self::SIGNED
-    }
-
-    fn read(bytes: &[u8], at: usize) -> Option<u64> {
-        index_of_i16(read_little(bytes, at, 2) as u16)
+    fn index(bits: u64) -> Option<u64> {
+        u64::try_from((bits as u16).cast_signed()).ok()
     }
 }
 
@@ -137,24 +92,14 @@ impl Index for i32 {
 
     const SIGNED: bool = true;
 
-    ghost wide = { 4 };
+    ghost WIDTH = { 4 };
 
-    ghost minus = { true };
+    ghost SIGNED = { true };
 
     ghost narrow = { Prim.search rules };
 
-    ghost back = { Prim.search rules };
-
-    fn wide_by() -> usize {
-        Self::WIDTH
-    }
-
-    fn has_sign() -> bool {
-        Self::SIGNED
-    }
-
-    fn read(bytes: &[u8], at: usize) -> Option<u64> {
-        index_of_i32(read_little(bytes, at, 4) as u32)
+    fn index(bits: u64) -> Option<u64> {
+        u64::try_from((bits as u32).cast_signed()).ok()
     }
 }
 
@@ -163,24 +108,14 @@ impl Index for i64 {
 
     const SIGNED: bool = true;
 
-    ghost wide = { 8 };
+    ghost WIDTH = { 8 };
 
-    ghost minus = { true };
+    ghost SIGNED = { true };
 
     ghost narrow = { Prim.search rules };
 
-    ghost back = { Prim.search rules };
-
-    fn wide_by() -> usize {
-        Self::WIDTH
-    }
-
-    fn has_sign() -> bool {
-        Self::SIGNED
-    }
-
-    fn read(bytes: &[u8], at: usize) -> Option<u64> {
-        index_of_i64(read_little(bytes, at, 8))
+    fn index(bits: u64) -> Option<u64> {
+        u64::try_from(bits.cast_signed()).ok()
     }
 }
 
@@ -189,24 +124,14 @@ impl Index for u8 {
 
     const SIGNED: bool = false;
 
-    ghost wide = { 1 };
+    ghost WIDTH = { 1 };
 
-    ghost minus = { false };
+    ghost SIGNED = { false };
 
     ghost narrow = { Prim.search rules };
 
-    ghost back = { Prim.search rules };
-
-    fn wide_by() -> usize {
-        Self::WIDTH
-    }
-
-    fn has_sign() -> bool {
-        Self::SIGNED
-    }
-
-    fn read(bytes: &[u8], at: usize) -> Option<u64> {
-        Some(read_little(bytes, at, 1))
+    fn index(bits: u64) -> Option<u64> {
+        Some(bits)
     }
 }
 
@@ -215,24 +140,14 @@ impl Index for u16 {
 
     const SIGNED: bool = false;
 
-    ghost wide = { 2 };
+    ghost WIDTH = { 2 };
 
-    ghost minus = { false };
+    ghost SIGNED = { false };
 
     ghost narrow = { Prim.search rules };
 
-    ghost back = { Prim.search rules };
-
-    fn wide_by() -> usize {
-        Self::WIDTH
-    }
-
-    fn has_sign() -> bool {
-        Self::SIGNED
-    }
-
-    fn read(bytes: &[u8], at: usize) -> Option<u64> {
-        Some(read_little(bytes, at, 2))
+    fn index(bits: u64) -> Option<u64> {
+        Some(bits)
     }
 }
 
@@ -241,24 +156,14 @@ impl Index for u32 {
 
     const SIGNED: bool = false;
 
-    ghost wide = { 4 };
+    ghost WIDTH = { 4 };
 
-    ghost minus = { false };
+    ghost SIGNED = { false };
 
     ghost narrow = { Prim.search rules };
 
-    ghost back = { Prim.search rules };
-
-    fn wide_by() -> usize {
-        Self::WIDTH
-    }
-
-    fn has_sign() -> bool {
-        Self::SIGNED
-    }
-
-    fn read(bytes: &[u8], at: usize) -> Option<u64> {
-        Some(read_little(bytes, at, 4))
+    fn index(bits: u64) -> Option<u64> {
+        Some(bits)
     }
 }
 
@@ -267,23 +172,13 @@ impl Index for u64 {
 
     const SIGNED: bool = false;
 
-    ghost wide = { 8 };
+    ghost WIDTH = { 8 };
 
-    ghost minus = { false };
+    ghost SIGNED = { false };
 
     ghost narrow = { Prim.search rules };
 
-    ghost back = { Prim.search rules };
-
-    fn wide_by() -> usize {
-        Self::WIDTH
-    }
-
-    fn has_sign() -> bool {
-        Self::SIGNED
-    }
-
-    fn read(bytes: &[u8], at: usize) -> Option<u64> {
-        Some(read_little(bytes, at, 8))
+    fn index(bits: u64) -> Option<u64> {
+        Some(bits)
     }
 }

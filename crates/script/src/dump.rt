@@ -1,44 +1,38 @@
 use crate::hex::show_hex;
-use crate::mistake::Mistake;
 use records::Record;
+use std::alloc::AllocError;
 use std::fmt::Write;
 
-fn numbers(r: Record) -> [u64; 13] {
-    [
-        r.root, r.kind, r.width, r.logic, r.size, r.span, r.start, r.length, r.nulls, r.v, r.a,
-        r.b, r.count,
-    ]
-}
+// How many bytes a line shows.
+const LINE: usize = 32;
 
-fn show_record(out: &mut String, i: usize, r: Record) -> Result<(), Mistake> {
+fn show_record(out: &mut String, i: usize, r: Record) -> Result<(), AllocError> {
     write!(out, "record {i}")?;
-    for n in numbers(r) {
+    for n in <[u64; 13]>::from(r) {
         write!(out, " {n}")?;
     }
-    Ok(out.push('\n')?)
+    out.push('\n')
 }
 
-fn show_records(out: &mut String, records: &[Record]) -> Result<(), Mistake> {
+fn show_records(out: &mut String, records: &[Record]) -> Result<(), AllocError> {
     for (i, r) in records.iter().enumerate() {
         show_record(out, i, *r)?;
     }
     Ok(())
 }
 
-// Lines of 32 bytes, the last one shorter.
-fn show_bytes(out: &mut String, bytes: &[u8]) -> Result<(), Mistake> {
-    let mut at = 0usize;
-    for part in bytes.chunks(32) {
+// The last line may be shorter.
+fn show_bytes(out: &mut String, bytes: &[u8]) -> Result<(), AllocError> {
+    for (at, line) in (0..bytes.len()).step_by(LINE).zip(bytes.chunks(LINE)) {
         write!(out, "bytes {at} ")?;
-        show_hex(out, part)?;
+        show_hex(out, line)?;
         out.push('\n')?;
-        at = at.saturating_add(32);
     }
     Ok(())
 }
 
 /// The marks, and what lies below them.
-pub fn show_dump(out: &mut String, records: &[Record], bytes: &[u8]) -> Result<(), Mistake> {
+pub fn show_dump(out: &mut String, records: &[Record], bytes: &[u8]) -> Result<(), AllocError> {
     let r = records.len();
     let b = bytes.len();
     writeln!(out, "marks {r} {b}")?;

@@ -17,6 +17,8 @@ fn digit(n: u8) -> char
     }
 }
 
+// Own digits: those of the kit's crate `hex` fill a slice or a new value and append to no text, and these have contracts.
+
 /// `x`, and two digits for each byte.
 pub fn show_hex(out: &mut String, bytes: &[u8]) -> Result<(), AllocError> {
     out.push('x')?;
@@ -43,9 +45,8 @@ fn value(digit: u8) -> Option<u8>
 fn byte(high: u8, low: u8) -> Option<u8>
     ensures { result ≡ joined (value_of high) (value_of low) }
 {
-    let (Some(h), Some(l)) = (value(high), value(low)) else {
-        return None;
-    };
+    let h = value(high)?;
+    let l = value(low)?;
     Some(h * 16 + l)
 }
 
@@ -55,10 +56,7 @@ pub fn read_hex(bytes: &mut Vec<u8>, word: &str) -> Result<(), Mistake> {
         let [high, low] = pair else {
             return Err(Mistake::NoHex);
         };
-        let Some(b) = byte(*high, *low) else {
-            return Err(Mistake::NoHex);
-        };
-        bytes.push(b)?;
+        bytes.push(byte(*high, *low).ok_or(Mistake::NoHex)?)?;
     }
     Ok(())
 }

@@ -1,46 +1,45 @@
 use crate::column::Column;
-use crate::layout::{put_entries, put_keys};
+use crate::layout::{Entries, Keys, lay_out};
 use crate::mistake::Mistake;
 use crate::parse::Hashing;
-use dictionary::{Stretch, merge_pieces};
+use dictionary::{Stretch, Tables, merge_pieces};
 use hashes::{Fnv1a, Hash, Lead};
 use records::Slot;
-use std::alloc::Global;
+use std::alloc::{AllocError, Global};
 use std::fmt::Write;
 
 // What became of the words.
 #[derive(Drop)]
 struct Interned {
-    entries: u64,
-    // For each word, one more than the number of its entry.
+    // For each word, one more than the number of its entry, as the merge leaves it in a lent table.
     keys: Vec<u64>,
     // For each entry, the word that it was made for.
     chosen: Vec<Slot>,
 }
 
-// What a word stands for; that of an absent one is not looked at.
-fn text<'a>(word: &'a str) -> &'a str {
+// What a word stands for; None for an absent one.
+fn entry<'a>(word: &'a str) -> Option<&'a str> {
     match word {
-        "-" | "\"\"" => "",
-        _ => word,
+        "-" => None,
+        "\"\"" => Some(""),
+        _ => Some(word),
     }
 }
 
 // A dictionary column that has each word for an entry and for a row.
-fn words_column(heap: Global, words: &[&str]) -> Result<Column, Mistake> {
-    let mut keys = Vec::new(heap);
-    let mut entries = Vec::new(heap);
-    let mut valid = Vec::new(heap);
-    for (i, word) in words.iter().enumerate() {
-        keys.push(i as u64)?;
-        entries.push(text(word))?;
-        valid.push(*word != "-")?;
-    }
-    let mut bytes = Vec::new(heap);
-    let rows = put_keys(&mut bytes, 8, 0, keys.as_slice(), &[])?;
-    let entries = put_entries(&mut bytes, 8, entries.as_slice(), valid.as_slice())?;
-    let records = vec![in heap; rows, entries]?;
-    Ok(Column { records, bytes })
+fn words_column(heap: Global, words: &[&str]) -> Result<Column, AllocError> {
+    let keys: Vec<Option<u64>> = (0..words.len() as u64).map(|i| Some(i)).collect(heap)?;
+    let entries: Vec<Option<&str>> = words.iter().map(|word| entry(word)).collect(heap)?;
+    let keys = Keys {
+        width: 8,
+        signed: false,
+        rows: keys.as_slice(),
+    };
+    let entries = Entries {
+        width: 8,
+        rows: entries.as_slice(),
+    };
+    lay_out(heap, keys, entries)
 }
 
 // The smallest power of two above n + 128.
@@ -51,12 +50,10 @@ fn bucket_count(n: usize) -> Option<usize> {
 fn intern_words<H: Hash>(heap: Global, hash: &mut H, words: &[&str]) -> Result<Interned, Mistake> {
     let column = words_column(heap, words)?;
     let n = words.len();
-    let Some(count) = bucket_count(n) else {
-        return Err(Mistake::NoFit);
-    };
+    let count = bucket_count(n).ok_or(Mistake::NoFit)?;
     let mut keys = vec![in heap; 0; n]?;
     let mut buckets = vec![in heap; 0; count]?;
-    let mut chosen = vec![in heap; Slot { input: 0, entry: 0 }; n]?;
+    let mut chosen = vec![in heap; Slot::default(); n]?;
     let stretch = Stretch {
         place: 0,
         first: 0,
@@ -67,21 +64,18 @@ fn intern_words<H: Hash>(heap: Global, hash: &mut H, words: &[&str]) -> Result<I
         column.bytes.as_slice(),
         &[stretch],
         hash,
-        keys.as_mut_slice(),
-        buckets.as_mut_slice(),
-        chosen.as_mut_slice(),
+        &mut Tables {
+            keys: keys.as_mut_slice(),
+            buckets: buckets.as_mut_slice(),
+            chosen: chosen.as_mut_slice(),
+        },
     );
-    match merged {
-        Ok(entries) => Ok(Interned {
-            entries,
-            keys,
-            chosen,
-        }),
-        Err(_) => Err(Mistake::NoFit),
-    }
+    let entries = merged.map_err(|_| Mistake::NoFit)?;
+    chosen.truncate(entries as usize);
+    Ok(Interned { keys, chosen })
 }
 
-fn show_words(out: &mut String, words: &[&str], all: &Interned) -> Result<(), Mistake> {
+fn show_words(out: &mut String, words: &[&str], all: &Interned) -> Result<(), AllocError> {
     for (i, (word, key)) in words.iter().zip(all.keys.iter()).enumerate() {
         let entry = key.saturating_sub(1);
         let state = match all.chosen.get(entry as usize) {
@@ -93,8 +87,8 @@ fn show_words(out: &mut String, words: &[&str], all: &Interned) -> Result<(), Mi
     Ok(())
 }
 
-fn show_entries(out: &mut String, words: &[&str], all: &Interned) -> Result<(), Mistake> {
-    for (entry, slot) in all.chosen.iter().take(all.entries as usize).enumerate() {
+fn show_entries(out: &mut String, words: &[&str], all: &Interned) -> Result<(), AllocError> {
+    for (entry, slot) in all.chosen.iter().enumerate() {
         if let Some(word) = words.get(slot.entry as usize) {
             writeln!(out, "entry {entry} {word}")?;
         }
@@ -109,10 +103,11 @@ pub fn show_interned(
     hash: Hashing,
     words: &[&str],
 ) -> Result<(), Mistake> {
+    // A line names its hash by a word; each is a type of its own.
     let all = match hash {
         Hashing::Fnv => intern_words(heap, &mut Fnv1a {}, words)?,
         Hashing::Lead => intern_words(heap, &mut Lead {}, words)?,
     };
     show_words(out, words, &all)?;
-    show_entries(out, words, &all)
+    Ok(show_entries(out, words, &all)?)
 }

@@ -34,8 +34,9 @@ mod parse;
 mod reads;
 mod rows;
 mod show;
+mod width;
 
-pub use column::{Column, ZERO};
+pub use column::Column;
 pub use dump::show_dump;
 pub use hex::read_hex;
 pub use intern::show_interned;
@@ -44,3 +45,4 @@ pub use names::names_column;
 pub use parse::{Call, Command, Hashing, Part, parse_line, parse_part};
 pub use rows::show_rows;
 pub use show::{show_cell, show_place};
+pub use width::Width;

@@ -1,104 +1,67 @@
-use std::alloc::{AllocError, AllocFailed};
-use std::fmt;
+use std::alloc::AllocError;
+use thiserror::Error;
 
-/// A kind of line, which has a number of words of its own.
-#[derive(Clone, Copy)]
+/// A kind of line, which has a number of words of its own. It is written as such a line is.
+#[derive(Clone, Copy, Debug, PartialEq, Eq, Error)]
 pub enum Form {
+    #[error("memory RECORDS BYTES")]
     Memory,
+    #[error("column NAME")]
     Column,
+    #[error("record and 13 numbers")]
     Record,
+    #[error("bytes HEX")]
     Bytes,
+    #[error("end")]
     End,
+    #[error("names NAME WIDTH WORD ..")]
     Names,
+    #[error("admit NAME")]
     Admit,
+    #[error("intern HASH WORD ..")]
     Intern,
+    #[error("slice PLACE FIRST ROWS")]
     Slice,
+    #[error("cell PLACE ROW")]
     Cell,
+    #[error("rows PLACE")]
     Rows,
+    #[error("dump")]
     Dump,
 }
 
 /// Why a line of a script is not carried out.
-#[derive(Clone, Copy)]
+#[derive(Clone, Copy, Debug, PartialEq, Eq, Error)]
 pub enum Mistake {
     /// The first word is none of the commands.
+    #[error("expected memory, column, names, admit, intern, slice, cell, rows or dump")]
     Unknown,
     /// Too few words, or too many.
+    #[error("expected {0}")]
     Words(Form),
+    #[error("expected a number")]
     NoNumber,
+    #[error("expected hex digits, two to a byte")]
     NoHex,
+    #[error("expected a width of 1, 2, 4 or 8")]
     NoWidth,
+    #[error("expected fewer different names")]
     TooManyNames,
+    #[error("expected fnv or lead")]
     NoHash,
     /// The words of a line are too many for one column.
+    #[error("expected words that fit into one column")]
     NoFit,
     /// A line that has no place inside a column, or the end of the script there.
+    #[error("expected record, bytes or end")]
     InColumn,
+    #[error("expected the name of a column")]
     NoColumn,
+    #[error("expected memory first")]
     NoMemory,
+    #[error("expected at most 16777216 records and 1073741824 bytes")]
     TooLarge,
     /// The machine has no memory left.
-    Exhausted,
-}
-
-fn form_text(form: Form) -> &'static str {
-    match form {
-        Form::Memory => "expected memory RECORDS BYTES",
-        Form::Column => "expected column NAME",
-        Form::Record => "expected record and 13 numbers",
-        Form::Bytes => "expected bytes HEX",
-        Form::End => "expected end",
-        Form::Names => "expected names NAME WIDTH WORD ..",
-        Form::Admit => "expected admit NAME",
-        Form::Intern => "expected intern HASH WORD ..",
-        Form::Slice => "expected slice PLACE FIRST ROWS",
-        Form::Cell => "expected cell PLACE ROW",
-        Form::Rows => "expected rows PLACE",
-        Form::Dump => "expected dump",
-    }
-}
-
-fn text(m: Mistake) -> &'static str {
-    match m {
-        Mistake::Unknown => {
-            "expected memory, column, names, admit, intern, slice, cell, rows or dump"
-        }
-        Mistake::Words(form) => form_text(form),
-        Mistake::NoNumber => "expected a number",
-        Mistake::NoHex => "expected hex digits, two to a byte",
-        Mistake::NoWidth => "expected a width of 1, 2, 4 or 8",
-        Mistake::TooManyNames => "expected fewer different names",
-        Mistake::NoHash => "expected fnv or lead",
-        Mistake::NoFit => "expected words that fit into one column",
-        Mistake::InColumn => "expected record, bytes or end",
-        Mistake::NoColumn => "expected the name of a column",
-        Mistake::NoMemory => "expected memory first",
-        Mistake::TooLarge => "expected at most 16777216 records and 1073741824 bytes",
-        Mistake::Exhausted => "out of memory",
-    }
-}
-
-impl fmt::Display for Mistake {
-    fn fmt<W: fmt::Write>(&self, f: &mut fmt::Formatter<W>) -> fmt::Result {
-        f.write_str(text(*self))
-    }
-}
-
-impl From<AllocError> for Mistake {
-    fn from(_e: AllocError) -> Mistake {
-        Mistake::Exhausted
-    }
-}
-
-impl<T: Drop> From<AllocFailed<T>> for Mistake {
-    fn from(_e: AllocFailed<T>) -> Mistake {
-        Mistake::Exhausted
-    }
-}
-
-// A write to a String fails for want of memory alone.
-impl From<fmt::Error> for Mistake {
-    fn from(_e: fmt::Error) -> Mistake {
-        Mistake::Exhausted
-    }
+    #[error("out of memory")]
+    Exhausted(#[from(alloc)] AllocError),
 }

@@ -1,75 +1,52 @@
 use crate::column::Column;
-use crate::layout::{put_entries, put_keys};
+use crate::layout::{Entries, Keys, lay_out};
 use crate::mistake::Mistake;
-use std::alloc::{AllocError, Global};
-use std::collections::BTreeMap;
+use crate::width::Width;
+use indexmap::IndexSet;
+use numbers::largest_of;
+use std::alloc::Global;
 
-// The rows of a column of names, before they are laid out.
-#[derive(Drop)]
-struct Names<'a> {
-    keys: Vec<u64>,
-    valid: Vec<bool>,
-    entries: Vec<&'a str>,
-    numbers: BTreeMap<&'a str, u64>,
-}
-
-// How many names a signed key of `width` bytes can number.
+// How many names a signed key of `width` bytes can number. A width that no key has counts as the largest.
 fn most(width: u64) -> u64 {
-    match width {
-        1 => 128,
-        2 => 32768,
-        4 => 2147483648,
-        _ => 9223372036854775808,
+    match Width::try_from(width) {
+        Ok(width) => largest_of(true, width.bytes()) + 1,
+        Err(_) => 1 << 63,
     }
 }
 
-impl<'a> Names<'a> {
-    fn new(heap: Global) -> Names<'a> {
-        Names {
-            keys: Vec::new(heap),
-            valid: Vec::new(heap),
-            entries: Vec::new(heap),
-            numbers: BTreeMap::new(heap),
-        }
+// The number of a name, which it has from its first appearance on; None for a null row.
+fn key<'a>(
+    entries: &mut IndexSet<&'a str>,
+    width: u64,
+    word: &'a str,
+) -> Result<Option<u64>, Mistake> {
+    if word == "-" {
+        return Ok(None);
     }
-
-    // The number of a name, which it has from its first appearance on.
-    fn key(&mut self, word: &'a str, most: u64) -> Result<u64, Mistake> {
-        if let Some(n) = self.numbers.get(word) {
-            return Ok(*n);
-        }
-        let n = self.entries.len() as u64;
-        if n >= most {
-            return Err(Mistake::TooManyNames);
-        }
-        self.entries.push(word)?;
-        self.numbers.insert(word, n)?;
-        Ok(n)
+    let (n, _) = entries.insert_full(word)?;
+    let n = n as u64;
+    if n >= most(width) {
+        return Err(Mistake::TooManyNames);
     }
-
-    fn add(&mut self, word: &'a str, most: u64) -> Result<(), Mistake> {
-        let null = word == "-";
-        let key = if null { 0 } else { self.key(word, most)? };
-        self.keys.push(key)?;
-        self.valid.push(!null)?;
-        Ok(())
-    }
+    Ok(Some(n))
 }
 
-fn laid_out(heap: Global, width: u64, names: &Names) -> Result<Column, AllocError> {
-    let mut bytes = Vec::new(heap);
-    let keys = names.keys.as_slice();
-    let rows = put_keys(&mut bytes, width, 1, keys, names.valid.as_slice())?;
-    let entries = put_entries(&mut bytes, 4, names.entries.as_slice(), &[])?;
-    let records = vec![in heap; rows, entries]?;
-    Ok(Column { records, bytes })
-}
-
-/// A dictionary column of names, with signed keys of `width` bytes; `-` is a null row.
+/// A dictionary column of names, with signed keys of `width` bytes, which may be any number; `-` is a null row.
 pub fn names_column(heap: Global, width: u64, words: &[&str]) -> Result<Column, Mistake> {
-    let mut names = Names::new(heap);
+    let mut entries = IndexSet::new(heap);
+    let mut keys = Vec::new(heap);
     for word in words {
-        names.add(word, most(width))?;
+        keys.push(key(&mut entries, width, word)?)?;
     }
-    Ok(laid_out(heap, width, &names)?)
+    let entries: Vec<Option<&str>> = entries.iter().map(|entry| Some(*entry)).collect(heap)?;
+    let keys = Keys {
+        width,
+        signed: true,
+        rows: keys.as_slice(),
+    };
+    let entries = Entries {
+        width: 4,
+        rows: entries.as_slice(),
+    };
+    Ok(lay_out(heap, keys, entries)?)
 }

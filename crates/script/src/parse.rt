@@ -1,6 +1,12 @@
+ghost use Rattle.std.specs.Prelude.{◌≡◌};
+ghost use Rattle.script.specs.Hashings.{hashing_named};
+
 use crate::mistake::{Form, Mistake};
+use crate::width::Width;
 use records::Record;
 use std::alloc::Global;
+use std::str::FromStr;
+use store::Stretch;
 
 /// A line between `column` and `end`.
 #[derive(Drop)]
@@ -11,16 +17,16 @@ pub enum Part<'a> {
 }
 
 /// A call that names its column by its place, or a look at the whole store.
-#[derive(Clone, Copy)]
+#[derive(Clone, Copy, Debug, PartialEq, Eq)]
 pub enum Call {
-    Slice { place: u64, first: u64, rows: u64 },
+    Slice(Stretch),
     Cell { place: u64, row: u64 },
     Rows { place: u64 },
     Dump,
 }
 
 /// The hash that an `intern` line names.
-#[derive(Clone, Copy)]
+#[derive(Clone, Copy, Debug, PartialEq, Eq)]
 pub enum Hashing {
     Fnv,
     Lead,
@@ -38,7 +44,7 @@ pub enum Command<'a> {
     },
     Names {
         name: &'a str,
-        width: u64,
+        width: Width,
         words: Vec<&'a str>,
     },
     Admit {
@@ -51,66 +57,34 @@ pub enum Command<'a> {
     Call(Call),
 }
 
-fn number(word: &str) -> Result<u64, Mistake> {
-    match word.parse::<u64>() {
-        Ok(n) => Ok(n),
-        Err(_) => Err(Mistake::NoNumber),
+impl FromStr for Hashing {
+    type Err = Mistake;
+
+    ghost from_str_gives = { λ word r. r ≡ hashing_named word };
+
+    fn from_str(word: &str) -> Result<Hashing, Mistake> {
+        match word {
+            "fnv" => Ok(Hashing::Fnv),
+            "lead" => Ok(Hashing::Lead),
+            _ => Err(Mistake::NoHash),
+        }
     }
 }
 
-fn memory<'a>(words: &[&'a str]) -> Result<Command<'a>, Mistake> {
-    let [records, bytes] = words else {
-        return Err(Mistake::Words(Form::Memory));
-    };
-    Ok(Command::Memory {
-        records: number(records)?,
-        bytes: number(bytes)?,
-    })
+fn number(word: &str) -> Result<u64, Mistake> {
+    word.parse().map_err(|_| Mistake::NoNumber)
 }
 
-// The numbers of a record, of which there are as many as words.
-fn numbers(words: &[&str]) -> Result<[u64; 13], Mistake> {
-    let mut all = [0; 13];
+// The words after the first, of a line of the form that is given: N numbers.
+fn numbers<const N: usize>(words: &[&str], form: Form) -> Result<[u64; N], Mistake> {
+    if words.len() != N {
+        return Err(Mistake::Words(form));
+    }
+    let mut all = [0; N];
     for (n, word) in all.iter_mut().zip(words) {
         *n = number(word)?;
     }
     Ok(all)
-}
-
-fn record(words: &[&str]) -> Result<Record, Mistake> {
-    if words.len() != 13 {
-        return Err(Mistake::Words(Form::Record));
-    }
-    let [
-        root,
-        kind,
-        width,
-        logic,
-        size,
-        span,
-        start,
-        length,
-        nulls,
-        v,
-        a,
-        b,
-        count,
-    ] = numbers(words)?;
-    Ok(Record {
-        root,
-        kind,
-        width,
-        logic,
-        size,
-        span,
-        start,
-        length,
-        nulls,
-        v,
-        a,
-        b,
-        count,
-    })
 }
 
 // The one word after the first, of a line of the form that is given.
@@ -125,23 +99,11 @@ fn names<'a>(heap: Global, words: &[&'a str]) -> Result<Command<'a>, Mistake> {
     let [name, width, rest @ ..] = words else {
         return Err(Mistake::Words(Form::Names));
     };
-    let width = number(width)?;
-    match width {
-        1 | 2 | 4 | 8 => Ok(Command::Names {
-            name,
-            width,
-            words: rest.to_vec(heap)?,
-        }),
-        _ => Err(Mistake::NoWidth),
-    }
-}
-
-fn named_hash(word: &str) -> Result<Hashing, Mistake> {
-    match word {
-        "fnv" => Ok(Hashing::Fnv),
-        "lead" => Ok(Hashing::Lead),
-        _ => Err(Mistake::NoHash),
-    }
+    Ok(Command::Names {
+        name,
+        width: Width::try_from(number(width)?)?,
+        words: rest.to_vec(heap)?,
+    })
 }
 
 fn intern<'a>(heap: Global, words: &[&'a str]) -> Result<Command<'a>, Mistake> {
@@ -149,39 +111,36 @@ fn intern<'a>(heap: Global, words: &[&'a str]) -> Result<Command<'a>, Mistake> {
         return Err(Mistake::Words(Form::Intern));
     };
     Ok(Command::Intern {
-        hash: named_hash(hash)?,
+        hash: hash.parse()?,
         words: rest.to_vec(heap)?,
     })
 }
 
+fn memory<'a>(words: &[&'a str]) -> Result<Command<'a>, Mistake> {
+    let [records, bytes] = numbers::<2>(words, Form::Memory)?;
+    Ok(Command::Memory { records, bytes })
+}
+
 fn slice(words: &[&str]) -> Result<Call, Mistake> {
-    let [place, first, rows] = words else {
-        return Err(Mistake::Words(Form::Slice));
-    };
-    Ok(Call::Slice {
-        place: number(place)?,
-        first: number(first)?,
-        rows: number(rows)?,
-    })
+    let [place, first, rows] = numbers::<3>(words, Form::Slice)?;
+    Ok(Call::Slice(Stretch { place, first, rows }))
 }
 
 fn cell(words: &[&str]) -> Result<Call, Mistake> {
-    let [place, row] = words else {
-        return Err(Mistake::Words(Form::Cell));
-    };
-    Ok(Call::Cell {
-        place: number(place)?,
-        row: number(row)?,
-    })
+    let [place, row] = numbers::<2>(words, Form::Cell)?;
+    Ok(Call::Cell { place, row })
+}
+
+fn rows(words: &[&str]) -> Result<Call, Mistake> {
+    let [place] = numbers::<1>(words, Form::Rows)?;
+    Ok(Call::Rows { place })
 }
 
 fn placed(first: &str, rest: &[&str]) -> Result<Call, Mistake> {
     match first {
         "slice" => slice(rest),
         "cell" => cell(rest),
-        "rows" => Ok(Call::Rows {
-            place: number(only(rest, Form::Rows)?)?,
-        }),
+        "rows" => rows(rest),
         "dump" if rest.is_empty() => Ok(Call::Dump),
         "dump" => Err(Mistake::Words(Form::Dump)),
         _ => Err(Mistake::Unknown),
@@ -207,7 +166,7 @@ pub fn parse_line<'a>(heap: Global, first: &str, rest: &[&'a str]) -> Result<Com
 /// What a line inside a column says, by its first word and the others.
 pub fn parse_part<'a>(first: &str, rest: &[&'a str]) -> Result<Part<'a>, Mistake> {
     match first {
-        "record" => Ok(Part::Record(record(rest)?)),
+        "record" => Ok(Part::Record(Record::from(numbers::<13>(rest, Form::Record)?))),
         "bytes" => Ok(Part::Bytes {
             hex: only(rest, Form::Bytes)?,
         }),

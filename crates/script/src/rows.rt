@@ -1,14 +1,12 @@
-ghost use Rattle.std.specs.Prelude.{◌≤◌};
+ghost use Rattle.std.specs.Prelude.{◌≡◌, ◌+◌, ◌++◌, ◌<◌, length, IfSome};
 
 use crate::hex::show_hex;
-use crate::mistake::Mistake;
-use crate::reads::{bit_at, flat_at, is_null, number_at, offsets_at, run_at, text_at};
+use crate::reads::Node;
 use crate::show::show_fault;
-use column_check::first_broken;
-use records::Record;
+use column_check::Column;
+use records::{Kind, Record};
 use std::alloc::AllocError;
 use std::fmt::Write;
-use store::Fault;
 
 // A value that the memory does not hold. No well-formed column has one.
 const ABSENT: &str = "?";
@@ -28,110 +26,102 @@ fn show_bit(out: &mut String, bit: Option<bool>) -> Result<(), AllocError> {
     }
 }
 
-// Where the records of the tree at `at` end, at most at `end`.
-fn tree_end(r: Record, at: usize, end: usize) -> usize
-    ensures { result ≤ end }
-{
-    at.saturating_add(r.span as usize).min(end)
+// Trees of records, one after another, with the bytes that their places count in.
+#[derive(Clone, Copy)]
+struct Trees<'m> {
+    records: &'m [Record],
+    bytes: &'m [u8],
 }
 
-// The one row of the child of the record at `at` that has the number `row`.
-#[cycle(show)]
-fn show_child(
-    out: &mut String,
-    records: &[Record],
-    bytes: &[u8],
-    at: usize,
-    end: usize,
-    row: Option<u64>,
-) -> Result<(), AllocError> {
-    match row {
-        Some(row) if end > at && end - at > 1 => show_row(out, records, bytes, at + 1, end, row),
-        _ => out.push_str(ABSENT),
+impl<'m> Trees<'m> {
+    // The first tree, and those after it.
+    fn split(self) -> Option<(Trees<'m>, Trees<'m>)>
+        ensures whole { IfSome result (λ p. p.0.records.now ++ p.1.records.now ≡ self.entry.records.now) }
+        ensures first { IfSome result (λ p. 0 < length p.0.records.now) }
+        ensures rest { IfSome result (λ p. length p.0.records.now + length p.1.records.now ≡ length self.entry.records.now) }
+    {
+        let root = self.records.first()?;
+        let end = (root.span as usize).clamp(1, self.records.len());
+        let (first, rest) = self.records.split_at(end);
+        Some((
+            Trees {
+                records: first,
+                ..self
+            },
+            Trees {
+                records: rest,
+                ..self
+            },
+        ))
     }
-}
 
-#[cycle(show)]
-fn show_list(
-    out: &mut String,
-    records: &[Record],
-    bytes: &[u8],
-    at: usize,
-    end: usize,
-    part: Option<(u64, u64)>,
-) -> Result<(), AllocError> {
-    let Some((first, last)) = part else {
-        return out.push_str(ABSENT);
-    };
-    out.push('[')?;
-    for row in first..last {
-        if row > first {
-            out.push(' ')?;
+    // The one row of the first tree that has the number `row`.
+    #[cycle(show)]
+    fn show_child(self, out: &mut String, row: Option<u64>) -> Result<(), AllocError> {
+        match row {
+            Some(row) => self.show_row(out, row),
+            None => out.push_str(ABSENT),
         }
-        show_child(out, records, bytes, at, end, Some(row))?;
     }
-    out.push(']')
-}
 
-// The rows j of the trees between a struct's record at `at` and its end.
-#[cycle(show)]
-fn show_fields(
-    out: &mut String,
-    records: &[Record],
-    bytes: &[u8],
-    at: usize,
-    end: usize,
-    j: u64,
-) -> Result<(), AllocError> {
-    out.push('{')?;
-    let mut next = at.saturating_add(1);
-    for child in at.saturating_add(1)..end {
-        if child == next {
-            if child > at.saturating_add(1) {
+    #[cycle(show)]
+    fn show_list(self, out: &mut String, part: Option<(u64, u64)>) -> Result<(), AllocError> {
+        let Some((first, last)) = part else {
+            return out.push_str(ABSENT);
+        };
+        out.push('[')?;
+        for row in first..last {
+            if row > first {
                 out.push(' ')?;
             }
-            show_row(out, records, bytes, child, end, j)?;
-            next = child.saturating_add(span_at(records, child));
+            self.show_row(out, row)?;
         }
+        out.push(']')
     }
-    out.push('}')
-}
 
-fn span_at(records: &[Record], at: usize) -> usize {
-    match records.get(at) {
-        Some(r) => r.span as usize,
-        None => 0,
+    // The rows j of all the trees.
+    #[cycle(show)]
+    fn show_fields(self, out: &mut String, j: u64) -> Result<(), AllocError> {
+        out.push('{')?;
+        let mut left = self;
+        while let Some((field, rest)) = left.split() {
+            field.show_row(out, j)?;
+            if !rest.records.is_empty() {
+                out.push(' ')?;
+            }
+            left = rest;
+        }
+        out.push('}')
     }
-}
 
-// One row of the tree at `at`, whose records end at or below `end`.
-#[cycle(show)]
-fn show_row(
-    out: &mut String,
-    records: &[Record],
-    bytes: &[u8],
-    at: usize,
-    end: usize,
-    row: u64,
-) -> Result<(), AllocError> {
-    let Some(r) = records.get(at) else {
-        return out.push_str(ABSENT);
-    };
-    let r = *r;
-    let j = r.start.saturating_add(row);
-    let end = tree_end(r, at, end);
-    if is_null(bytes, r, j) == Some(true) {
-        return out.push_str("null");
-    }
-    match r.kind {
-        1 => show_part(out, flat_at(bytes, r, j)),
-        2 => show_bit(out, bit_at(bytes, r.a, j)),
-        3 => show_part(out, text_at(bytes, r, j)),
-        4 => show_child(out, records, bytes, at, end, number_at(bytes, r, j)),
-        5 => show_list(out, records, bytes, at, end, offsets_at(bytes, r, j)),
-        8 => show_fields(out, records, bytes, at, end, j),
-        9 => show_child(out, records, bytes, at, end, run_at(bytes, r, j)),
-        _ => out.push_str(ABSENT),
+    // One row of a tree.
+    #[cycle(show)]
+    fn show_row(self, out: &mut String, row: u64) -> Result<(), AllocError> {
+        let [record, below @ ..] = self.records else {
+            return out.push_str(ABSENT);
+        };
+        let node = Node {
+            record: *record,
+            bytes: self.bytes,
+        };
+        let below = Trees {
+            records: below,
+            ..self
+        };
+        let j = record.start.saturating_add(row);
+        if node.is_null(j) == Some(true) {
+            return out.push_str("null");
+        }
+        match Kind::try_from(record.kind) {
+            Ok(Kind::Flat) => show_part(out, node.value(j)),
+            Ok(Kind::Bits) => show_bit(out, node.bit(j)),
+            Ok(Kind::Bytes) => show_part(out, node.text(j)),
+            Ok(Kind::Dictionary) => below.show_child(out, node.number(j)),
+            Ok(Kind::List) => below.show_list(out, node.offsets(j)),
+            Ok(Kind::Struct) => below.show_fields(out, j),
+            Ok(Kind::Runs) => below.show_child(out, node.run(j)),
+            Err(_) => out.push_str(ABSENT),
+        }
     }
 }
 
@@ -141,18 +131,19 @@ pub fn show_rows(
     records: &[Record],
     bytes: &[u8],
     place: u64,
-) -> Result<(), Mistake> {
-    if let Some(record) = first_broken(records, bytes, place) {
-        return show_fault(out, Fault::Malformed { input: 0, record });
-    }
-    let at = place as usize;
-    let length = match records.get(at) {
-        Some(r) => r.length,
-        None => 0,
+) -> Result<(), AllocError> {
+    let column = match Column::check(records, bytes, place) {
+        Ok(column) => column,
+        Err(broken) => return show_fault(out, broken.into()),
+    };
+    let length = column.root().length;
+    let records = &records[column.place..];
+    let Some((column, _)) = (Trees { records, bytes }).split() else {
+        return Ok(());
     };
     for row in 0..length {
         write!(out, "{row} ")?;
-        show_row(out, records, bytes, at, records.len(), row)?;
+        column.show_row(out, row)?;
         out.push('\n')?;
     }
     Ok(())

@@ -4,7 +4,7 @@ use Rattle.std.proofs.lemmas.List.{length-replicate, length-append, length-map, 
 use Rattle.std.proofs.ByRecursion.{All-from_get_or}
 use Rattle.numbers.specs.Puts.{put}
 use Rattle.numbers.proofs.Places.{put_more}
-use Rattle.records.specs.declared.Record.{Record}
+use Rattle.records.specs.declared.record.Record.{Record}
 use Rattle.format.specs.Trees.{rec_at, nothing}
 use Rattle.format.specs.Moves.{moved}
 use Rattle.format.specs.Rules.{children_at}
@@ -35,13 +35,12 @@ all_movable bs rs d ok h =
         let t = get_or-take (rec_at rs 0).span rs i nothing lt in
         rw t (omega (arith, f.v), omega (arith, f.a), omega (arith, f.b))
 
-pub admit_grown : (s : Store) (rs : List Record) (bs : List ℕ) (base : ℕ) (R : List Record) (B : List ℕ)
-    → Right bs rs 0 → base ≡ next_place s.marks.bytes
-    → R ≡ put s.marks.records (map (moved base) (take (rec_at rs 0).span rs)) s.records
+pub admit_grown : (s : Store) (rs : List Record) (bs : List ℕ) (base : ℕ) (r : Record) (R : List Record) (B : List ℕ)
+    → Right bs rs 0 → r ≡ rec_at rs 0 → base ≡ next_place s.marks.bytes
+    → R ≡ put s.marks.records (map (moved base) (take r.span rs)) s.records
     → s.marks.bytes ≤ length s.bytes → B ≡ put base bs (put s.marks.bytes (replicate (base - s.marks.bytes) 0) s.bytes)
-    → store R B (record { records = s.marks.records + (rec_at rs 0).span; bytes = base + length bs })
-    ≡ grown s (admitted s.marks.bytes rs) (admitted_bytes s.marks.bytes bs)
-admit_grown s rs bs base R B ok e r fit both =
+    → store R B (record { records = s.marks.records + r.span; bytes = base + length bs }) ≡ grown s (admitted s.marks.bytes rs) (admitted_bytes s.marks.bytes bs)
+admit_grown s rs bs base r R B ok root e moves fit both =
     let up : s.marks.bytes ≤ base = omega arith in
     let b : B ≡ put s.marks.bytes (replicate (base - s.marks.bytes) 0 ++ bs) s.bytes = both ∙ zeros_and_data s.bytes bs s.marks.bytes base up fit in
     let m : ℕ = s.marks.bytes in

@@ -32,7 +32,7 @@ shown_in s t (bytes_at p n) h =
 
 leading : (t : Bool) (h g : Held) → cond t (made h) (refuse 9 0 0) ≡ made g → (t ≡ true) × (g ≡ h)
 leading true h g e = (refl, cc)
-leading false h g e = let z : ◌≡◌ {A = ℕ} 0 1 = cc in absurd (omega arith)
+leading false h g e = absurd (cc)
 
 cell_row : (s : Store) (r : Result Cell Fault) (q i : ℕ) → told_cell r ≡ cell_told s q i → CellHasRow r s q i
 cell_row s (Err fault) q i e = tt

@@ -2,7 +2,7 @@
 use Rattle.std.proofs.Common.{◌≡◌, ℕ, ◌+◌, ◌-◌, ◌≤◌, Bool, true, false, cond, ltb, List, [], ◌++◌, length, take, drop, replicate, Some, None, Ok, Err, Option, Result, sym, refl, ap, ◌∙◌, subst, arith}
 use Rattle.std.proofs.lemmas.List.{append_assoc, append-nil, length-append, length-replicate, length-take-le, take_at}
 use Rattle.std.proofs.lemmas.Bool.{ltb-false}
-use Rattle.records.specs.declared.Record.{Record}
+use Rattle.records.specs.declared.record.Record.{Record}
 use Rattle.numbers.specs.Puts.{put, next_place}
 use Rattle.format.specs.Trees.{rec_at}
 use Rattle.format.specs.Moves.{sliced}
@@ -29,8 +29,8 @@ module _ (s : Store) (whole : torn s ≡ false) where
       go : (a : Bool) → ltb (length s.records) s.marks.records ≡ a → (b : Bool) → ltb (length s.bytes) s.marks.bytes ≡ b
           → cond a true (cond b true (cond (ltb 4294967295 (length s.records)) true (ltb 4294967295 (length s.bytes)))) ≡ false
           → (s.marks.records ≤ length s.records) × (s.marks.bytes ≤ length s.bytes)
-      go true e b f h = let z : ◌≡◌ {A = ℕ} 0 1 = cc in absurd (omega arith)
-      go false e true f h = let z : ◌≡◌ {A = ℕ} 0 1 = cc in absurd (omega arith)
+      go true e b f h = absurd (cc)
+      go false e true f h = absurd (cc)
       go false e false f h = (ltb-false _ _ e, ltb-false _ _ f)
 
   pub standing_grown : (rs : List Record) (bs : List ℕ) → standing (grown s rs bs) ≡ standing s ++ rs
@@ -58,12 +58,12 @@ same_stays s q w = same_here (written s) (standing s) q w
 
 -- the tests of a call that answered a place
 pub not_torn : {A : Type 0} (t : Bool) (n i r : ℕ) (x : Told A) (p : A) → cond t (refuse n i r) x ≡ made p → (t ≡ false) × (x ≡ made p)
-not_torn true n i r x p e = let z : ◌≡◌ {A = ℕ} 0 1 = cc in absurd (omega arith)
+not_torn true n i r x p e = absurd (cc)
 not_torn false n i r x p e = (refl, e)
 
 pub not_broken : {A : Type 0} (o : Option ℕ) (x : Told A) (p : A) → or_broken o x ≡ made p → (o ≡ None) × (x ≡ made p)
 not_broken None x p e = (refl, e)
-not_broken (Some at) x p e = let z : ◌≡◌ {A = ℕ} 0 1 = cc in absurd (omega arith)
+not_broken (Some at) x p e = absurd (cc)
 
 made_place : (p q : ℕ) → made p ≡ made q → q ≡ p
 made_place p q e = cc

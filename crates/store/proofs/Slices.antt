@@ -1,18 +1,17 @@
-use Rattle.std.proofs.Common.{◌≡◌, ℕ, ◌+◌, ◌-◌, List, [], ◌∷◌, length, add-zero, arith}
-use Rattle.numbers.specs.Puts.{put, part}
+use Rattle.std.proofs.Common.{◌≡◌, ℕ, ◌+◌, ◌-◌, List, [], length, add-zero, arith}
+use Rattle.numbers.specs.Puts.{put}
 use Rattle.numbers.proofs.Places.{length_part, put_none}
-use Rattle.records.specs.declared.Record.{Record}
+use Rattle.records.specs.declared.record.Record.{Record}
 use Rattle.format.specs.Trees.{rec_at}
-use Rattle.format.specs.Moves.{window, sliced}
+use Rattle.format.specs.Moves.{sliced}
 use Rattle.format.proofs.Known.{Right}
 use Rattle.store.specs.Stores.{Store, store, standing, written, grown}
 
 -- what a slice wrote is the store with the slice above the marks
-pub slice_grown : (s : Store) (q f n : ℕ) (r head : Record) (R : List Record)
-    → Right (written s) (standing s) q → r ≡ rec_at (standing s) q → head ≡ window r f n
-    → R ≡ put s.marks.records (head ∷ part (standing s) (q + 1) (r.span - 1)) s.records
+pub slice_grown : (s : Store) (q f n : ℕ) (r : Record) (R : List Record)
+    → Right (written s) (standing s) q → r ≡ rec_at (standing s) q → R ≡ put s.marks.records (sliced (standing s) q f n) s.records
     → store R s.bytes (record { records = s.marks.records + r.span; bytes = s.marks.bytes }) ≡ grown s (sliced (standing s) q f n) []
-slice_grown s q f n r head R ok e h w =
+slice_grown s q f n r R ok e w =
     let k = ok.inside in
     let o = ok.head.some in
     let l = length_part (standing s) (q + 1) ((rec_at (standing s) q).span - 1) (omega arith) in

@@ -1,6 +1,6 @@
 -- What each call answers and leaves: its tests by rising number, and what it writes.
 use Rattle.std.specs.Prelude.{◌≡◌, ℕ, ◌+◌, ◌-◌, cond, List, [], ◌++◌, map, length, drop, replicate, Some, None, Ok, Err, Option, Result, nat_le, nat_lt}
-use Rattle.records.specs.declared.Record.{Record}
+use Rattle.records.specs.declared.record.Record.{Record}
 use Rattle.numbers.specs.Puts.{next_place}
 use Rattle.format.specs.Trees.{rec_at}
 use Rattle.format.specs.Types.{records_at}

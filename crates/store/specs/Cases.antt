@@ -1,6 +1,6 @@
 -- The worked cases, computed by the checker from the definitions that the calls' contracts use.
 use Rattle.std.specs.Prelude.{◌≡◌, ℕ, [], ◌∷◌, replicate}
-use Rattle.records.specs.declared.Record.{Record}
+use Rattle.records.specs.declared.record.Record.{Record}
 use Rattle.format.specs.Trees.{nothing}
 use Rattle.store.specs.Stores.{Store, store, grown}
 use Rattle.store.specs.Calls.{made, admit_told, admitted, admitted_bytes}

@@ -1,6 +1,6 @@
 -- What the calls promise: what they settle, and what this means in the words of the format.
 use Rattle.std.specs.Prelude.{◌≡◌, ℕ, ◌+◌, ◌≤◌, List, length, Ok, Err, Result}
-use Rattle.records.specs.declared.Record.{Record}
+use Rattle.records.specs.declared.record.Record.{Record}
 use Rattle.numbers.specs.Puts.{part}
 use Rattle.format.specs.Rows.{Row, null, raw}
 use Rattle.format.specs.Rows as rows

@@ -1,6 +1,6 @@
 -- A store: its two memories and its two marks.
 use Rattle.std.specs.Prelude.{ℕ, ◌+◌, Bool, true, cond, List, length, take, nat_lt}
-use Rattle.records.specs.declared.Record.{Record}
+use Rattle.records.specs.declared.record.Record.{Record}
 use Rattle.numbers.specs.Puts.{put}
 use Rattle.store.specs.declared.marks.Marks.{Marks}
 

@@ -1,8 +1,8 @@
-ghost use Rattle.std.specs.Prelude.{◌≡◌, ◌+◌, ◌-◌, ◌/◌, ◌^◌, ◌<◌, ◌≤◌, true, ◌∷◌, map, length, take, replicate, nat_lt};
+ghost use Rattle.std.specs.Prelude.{◌≡◌, ◌+◌, ◌-◌, ◌/◌, ◌^◌, ◌<◌, ◌≤◌, true, ◌∷◌, map, length, take, replicate};
 ghost use Rattle.std.specs.List.{AllByRecursion};
 ghost use Rattle.numbers.specs.Puts.{put, part};
 ghost use Rattle.format.specs.Trees.{rec_at};
-ghost use Rattle.format.specs.Moves.{window, moved};
+ghost use Rattle.format.specs.Moves.{moved, sliced};
 ghost use Rattle.store.specs.Stores.{store, torn, standing};
 ghost use Rattle.store.specs.Calls.{told_cell, SliceSettles, AdmitSettles, cell_told};
 ghost use Rattle.store.specs.Promises.{SliceContract, AdmitContract, CellContract};
@@ -10,11 +10,12 @@ ghost use Rattle.store.specs.Movable.{Movable};
 
 use super::fault::Fault;
 use super::marks::Marks;
-use column_check::first_broken;
-use columns::{Cell, find, leads_to_value};
+use column_check::Column;
+use columns::{Cell, Stretch, find, is_outside, leads_to_value};
 use numbers::{copy_up, next_place, put_slice, put_zeros};
-use records::Record;
+use records::{Kind, Record};
 
+// Records, bytes and marks stay parameters of each call: `slice` and `cell` only read the bytes, so that a cell may be held meanwhile.
 fn is_torn(records: &[Record], bytes: &[u8], marks: &Marks) -> bool
     ensures { result ≡ torn (store records.now bytes.now marks.now) }
 {
@@ -24,92 +25,55 @@ fn is_torn(records: &[Record], bytes: &[u8], marks: &Marks) -> bool
         || bytes.len() > 4294967295
 }
 
-// n things from number `first` on do not all lie below `end`.
-fn is_outside(end: u64, first: u64, n: u64) -> bool
-    ensures { result ≡ nat_lt end (first + n) }
+// A slice of the column whose first record is r, at `at`: its records once more, the first over the rows of the stretch.
+#[tactic(auto, using(crate::proofs::Copies::slice_written))]
+fn write_slice(records: &mut [Record], r: Record, s: Stretch, at: usize)
+    requires head { r ≡ rec_at (take at records.old) s.place }
+    requires some { 1 ≤ r.span }
+    requires below { s.place + r.span ≤ at }
+    requires room { at + r.span ≤ length records.old }
+    requires fits { r.start + s.first < 2 ^ 64 }
+    ensures { records.new ≡ put at (sliced (take at records.old) s.place s.first s.rows) records.old }
 {
-    match first.checked_add(n) {
-        Some(last) => end < last,
-        None => true,
-    }
+    records[at] = s.windowed(r);
+    copy_up(records, s.place as usize + 1, r.span as usize - 1, at + 1);
 }
 
-// The record at q, below `at`.
-fn read_below(records: &[Record], at: usize, q: usize) -> Record
-    requires { (q < at) × (at ≤ length records.now) }
-    ensures { result ≡ rec_at (take at records.now) q }
-{
-    let below = &records[..at];
-    below[q]
-}
-
-fn windowed(r: Record, f: u64, n: u64) -> Record
-    requires { r.start + f < 2 ^ 64 }
-    ensures { result ≡ window r f n }
-{
-    Record {
-        start: r.start + f,
-        length: n,
-        ..r
-    }
-}
-
-// The column of `span` records at q once more, at `at`, with `head` for its first.
-fn write_copy(records: &mut [Record], q: usize, span: usize, head: Record, at: usize)
-    requires { (1 ≤ span) × ((q + span ≤ at) × (at + span ≤ length records.old)) }
-    ensures { records.new ≡ put at (head ∷ part (take at records.old) (q + 1) (span - 1)) records.old }
-{
-    records[at] = head;
-    copy_up(records, q + 1, span - 1, at + 1);
-}
-
+// What `slice` settles. The public call adds what that means for rows, so its contract is longer and its code is this.
 fn make_slice(
     records: &mut [Record],
     bytes: &[u8],
     marks: &mut Marks,
-    place: u64,
-    first: u64,
-    rows: u64,
+    s: Stretch,
 ) -> Result<u64, Fault>
-    ensures { SliceSettles result (store records.old bytes.now marks.old) (store records.new bytes.now marks.new) place first rows }
+    ensures { SliceSettles result (store records.old bytes.now marks.old) (store records.new bytes.now marks.new) s.place s.first s.rows }
 {
     if is_torn(records, bytes, marks) {
         return Err(Fault::Torn);
     }
     let at = marks.records as usize;
-    if let Some(record) = first_broken(&records[..at], &bytes[..marks.bytes as usize], place) {
-        return Err(Fault::Malformed { input: 0, record });
-    }
-    let r = read_below(records, at, place as usize);
-    if is_outside(r.length, first, rows) {
+    let r = Column::check(&records[..at], &bytes[..marks.bytes as usize], s.place)?.root();
+    if s.is_outside(r.length) {
         return Err(Fault::Outside { input: 0 });
     }
     if is_outside(records.len() as u64, at as u64, r.span) {
         return Err(Fault::Full);
     }
-    write_copy(
-        records,
-        place as usize,
-        r.span as usize,
-        windowed(r, first, rows),
-        at,
-    );
+    write_slice(records, r, s, at);
     marks.records += r.span;
     Ok(at as u64)
 }
 
-// A column over a stretch of another, with the same places.
+/// A column over a stretch of another, with the same places. It answers the new column's place.
 pub fn slice(
     records: &mut [Record],
     bytes: &[u8],
     marks: &mut Marks,
-    place: u64,
-    first: u64,
-    rows: u64,
+    s: Stretch,
 ) -> Result<u64, Fault>
-    ensures { SliceContract result (store records.old bytes.now marks.old) (store records.new bytes.now marks.new) place first rows }
+    ensures { SliceContract result (store records.old bytes.now marks.old) (store records.new bytes.now marks.new) s.place s.first s.rows }
 {
-    make_slice(records, bytes, marks, place, first, rows)
+    make_slice(records, bytes, marks, s)
 }
 
 // A record whose used places lie d bytes further on.
@@ -118,9 +82,27 @@ fn moved_by(r: Record, d: u64) -> Record
     ensures { result ≡ moved d r }
 {
     let v = if r.nulls == 1 { d + r.v } else { r.v };
-    let a = if r.kind == 8 { r.a } else { d + r.a };
-    let b = if r.kind == 3 { d + r.b } else { r.b };
+    let a = if r.kind == u64::from(Kind::Struct) {
+        r.a
+    } else {
+        d + r.a
+    };
+    let b = if r.kind == u64::from(Kind::Bytes) {
+        d + r.b
+    } else {
+        r.b
+    };
     Record { v, a, b, ..r }
+}
+
+// Records whose used places then lie d bytes further on.
+fn move_all(records: &mut [Record], d: u64)
+    requires { AllByRecursion (Movable d) records.old }
+    ensures { records.new ≡ map (moved d) records.old }
+{
+    for r in records.iter_mut() {
+        *r = moved_by(*r, d);
+    }
 }
 
 // The records of an outside column, moved along.
@@ -129,20 +111,22 @@ fn write_moved(records: &mut [Record], column: &[Record], d: u64, at: usize)
     requires movable { AllByRecursion (Movable d) column.now }
     ensures { records.new ≡ put at (map (moved d) column.now) records.old }
 {
-    for i in 0..column.len() {
-        records[at + i] = moved_by(column[i], d);
-    }
+    let new = &mut records[at..at + column.len()];
+    new.copy_from_slice(column);
+    move_all(new, d);
 }
 
 // Zeros from `at` up to `base`, and then the data.
 fn write_data(bytes: &mut [u8], source: &[u8], at: usize, base: usize)
-    requires { (at ≤ base) × (base + length source.now ≤ length bytes.old) }
+    requires ahead { at ≤ base }
+    requires room { base + length source.now ≤ length bytes.old }
     ensures { bytes.new ≡ put base source.now (put at (replicate (base - at) 0) bytes.old) }
 {
     put_zeros(bytes, at, base - at);
     put_slice(bytes, base, source);
 }
 
+// What `admit` settles, likewise.
 fn bring_in(
     records: &mut [Record],
     bytes: &mut [u8],
@@ -155,11 +139,8 @@ fn bring_in(
     if is_torn(records, bytes, marks) {
         return Err(Fault::Torn);
     }
-    if let Some(record) = first_broken(column, source, 0) {
-        return Err(Fault::Malformed { input: 0, record });
-    }
+    let span = Column::check(column, source, 0)?.root().span;
     let at = marks.records;
-    let span = column[0].span;
     if is_outside(records.len() as u64, at, span) {
         return Err(Fault::Full);
     }
@@ -174,7 +155,7 @@ fn bring_in(
     Ok(at)
 }
 
-// An outside column comes in, with all its bytes.
+/// An outside column comes in, with all its bytes. It answers the column's place.
 pub fn admit(
     records: &mut [Record],
     bytes: &mut [u8],
@@ -187,6 +168,7 @@ pub fn admit(
     bring_in(records, bytes, marks, column, source)
 }
 
+// What `cell` answers, likewise.
 fn read_cell<'m>(
     records: &[Record],
     bytes: &'m [u8],
@@ -201,20 +183,18 @@ fn read_cell<'m>(
     }
     let standing = &records[..marks.records as usize];
     let written = &bytes[..marks.bytes as usize];
-    if let Some(record) = first_broken(standing, written, place) {
-        return Err(Fault::Malformed { input: 0, record });
-    }
-    let q = place as usize;
-    if row >= standing[q].length {
+    let column = Column::check(standing, written, place)?;
+    if row >= column.root().length {
         return Err(Fault::Outside { input: 0 });
     }
-    if !leads_to_value(standing, q) {
+    if !leads_to_value(standing, column.place) {
         return Err(Fault::Kind);
     }
-    Ok(find(standing, written, q, row))
+    Ok(find(&column, row))
 }
 
-// One row of a column, through keys and runs: null, a bit, or the part of the byte memory that holds the value.
+/// One row of a column, through keys and runs: null, a bit, or the part of the byte memory that holds the value.
+#[tactic(auto, using(crate::proofs::Cells::cell_promise))]
 pub fn cell<'m>(
     records: &[Record],
     bytes: &'m [u8],

@@ -1,4 +1,4 @@
-// The store: record memory and byte memory that the caller lends, two marks, and the calls on them. No call allocates.
+//! The store: record memory and byte memory that the caller lends, two marks, and the calls on them. No call allocates.
 #![tactic(auto)]
 
 mod calls;
@@ -8,6 +8,6 @@ mod marks;
 
 pub use calls::{admit, cell, slice};
 pub use cases::worked_cases;
-pub use columns::Cell;
-pub use fault::{Fault, input, number, record};
+pub use columns::{Cell, Stretch};
+pub use fault::Fault;
 pub use marks::{Marks, set_up};

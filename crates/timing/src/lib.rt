@@ -1,17 +1,18 @@
-// What the benchmark in bench/ links: the hash of one name, and the merge of one dictionary column under FNV-1a.
+//! What the benchmark in bench/ links: the hash of one name, and the merge of one dictionary column under FNV-1a.
 #![tactic(auto)]
 
-use dictionary::{Stretch, merge_pieces};
+use dictionary::{Stretch, Tables, merge_pieces};
 use hashes::{Fnv1a, Hash};
 use records::{Record, Slot};
 
+/// The number of a name.
 #[unsafe(no_mangle)]
 pub extern "C" fn timing_fnv1a(name: &[u8]) -> u64 {
     let mut hash = Fnv1a {};
     hash.hash(name)
 }
 
-// The number of entries, or 0 where the merge is refused.
+/// The number of entries, or 0 where the merge is refused. Numbers and slices one by one, since C calls it.
 #[unsafe(no_mangle)]
 pub extern "C" fn timing_merge(
     records: &[Record],
@@ -27,8 +28,10 @@ pub extern "C" fn timing_merge(
         first: 0,
         rows,
     }];
-    match merge_pieces(records, bytes, &inputs, &mut hash, keys, buckets, chosen) {
-        Ok(entries) => entries,
-        Err(_) => 0,
-    }
+    let mut tables = Tables {
+        keys,
+        buckets,
+        chosen,
+    };
+    merge_pieces(records, bytes, &inputs, &mut hash, &mut tables).unwrap_or(0)
 }

@@ -22,24 +22,19 @@ fn read_script(rt: &HostRuntime) -> io::Result<String> {
 }
 
 fn run_lines(rt: &HostRuntime, session: &mut Session, text: &str) -> Result<(), Failure> {
-    let mut line = 0u64;
-    for words in text.lines() {
-        line = line.saturating_add(1);
-        if let Err(mistake) = session.step(words) {
-            return Err(Failure::Script { line, mistake });
-        }
+    for (line, words) in (1u64..).zip(text.lines()) {
+        session
+            .step(words)
+            .map_err(|mistake| Failure::Script { line, mistake })?;
         if session.out.len() >= GATHERED {
             rt.print(session.out.as_str())?;
             session.out.clear();
         }
     }
-    match session.finish() {
-        Ok(()) => Ok(()),
-        Err(mistake) => Err(Failure::Script {
-            line: line.saturating_add(1),
-            mistake,
-        }),
-    }
+    let line = (text.lines().count() as u64).saturating_add(1);
+    session
+        .finish()
+        .map_err(|mistake| Failure::Script { line, mistake })
 }
 
 fn replay(rt: &HostRuntime, text: &str) -> Result<(), Failure> {

@@ -1,7 +1,7 @@
 use records::Record;
-use script::{Column, Mistake, ZERO};
-use std::alloc::Global;
-use store::{Cell, Fault, Marks};
+use script::{Column, Mistake};
+use std::alloc::{AllocError, Global};
+use store::{Cell, Fault, Marks, Stretch};
 
 const MOST_RECORDS: u64 = 16777216;
 
@@ -21,7 +21,7 @@ impl Memory {
             return Err(Mistake::TooLarge);
         }
         Ok(Memory {
-            records: vec![in heap; ZERO; records as usize]?,
+            records: vec![in heap; Record::default(); records as usize]?,
             bytes: vec![in heap; 0; bytes as usize]?,
             marks: store::set_up(),
         })
@@ -37,14 +37,12 @@ impl Memory {
         )
     }
 
-    pub fn slice(&mut self, place: u64, first: u64, rows: u64) -> Result<u64, Fault> {
+    pub fn slice(&mut self, stretch: Stretch) -> Result<u64, Fault> {
         store::slice(
             self.records.as_mut_slice(),
             self.bytes.as_slice(),
             &mut self.marks,
-            place,
-            first,
-            rows,
+            stretch,
         )
     }
 
@@ -58,23 +56,24 @@ impl Memory {
         )
     }
 
-    pub fn show_rows(&self, out: &mut String, place: u64) -> Result<(), Mistake> {
+    pub fn show_rows(&self, out: &mut String, place: u64) -> Result<(), AllocError> {
         script::show_rows(out, self.records(), self.bytes(), place)
     }
 
-    pub fn show_dump(&self, out: &mut String) -> Result<(), Mistake> {
+    pub fn show_dump(&self, out: &mut String) -> Result<(), AllocError> {
         script::show_dump(out, self.records(), self.bytes())
     }
 
-    // The records below their mark.
     fn records(&self) -> &[Record] {
-        let end = (self.marks.records() as usize).min(self.records.len());
-        &self.records.as_slice()[0..end]
+        below(self.records.as_slice(), self.marks.records())
     }
 
-    // The bytes below their mark.
     fn bytes(&self) -> &[u8] {
-        let end = (self.marks.bytes() as usize).min(self.bytes.len());
-        &self.bytes.as_slice()[0..end]
+        below(self.bytes.as_slice(), self.marks.bytes())
     }
+}
+
+// What lies below a mark.
+fn below<T>(all: &[T], mark: u64) -> &[T] {
+    &all[..all.len().min(mark as usize)]
 }

@@ -26,9 +26,9 @@ fn echo(out: &mut String, words: &[&str]) -> Result<(), AllocError> {
     out.push('\n')
 }
 
-fn answer(out: &mut String, memory: &mut Memory, call: Call) -> Result<(), Mistake> {
+fn answer(out: &mut String, memory: &mut Memory, call: Call) -> Result<(), AllocError> {
     match call {
-        Call::Slice { place, first, rows } => show_place(out, memory.slice(place, first, rows)),
+        Call::Slice(stretch) => show_place(out, memory.slice(stretch)),
         Call::Cell { place, row } => show_cell(out, memory.cell(place, row)),
         Call::Rows { place } => memory.show_rows(out, place),
         Call::Dump => memory.show_dump(out),
@@ -91,7 +91,7 @@ impl Session {
             Command::Memory { records, bytes } => self.set_up(records, bytes),
             Command::Column { name } => self.begin(name),
             Command::Names { name, width, words } => {
-                let column = names_column(self.heap, width, words.as_slice())?;
+                let column = names_column(self.heap, width.bytes() as u64, words.as_slice())?;
                 self.keep(String::from_str(self.heap, name)?, column)
             }
             Command::Admit { name } => self.admit(name, words),
@@ -113,14 +113,10 @@ impl Session {
     }
 
     fn admit(&mut self, name: &str, words: &[&str]) -> Result<(), Mistake> {
-        let Some(memory) = &mut self.memory else {
-            return Err(Mistake::NoMemory);
-        };
-        let Some(column) = self.columns.get(name) else {
-            return Err(Mistake::NoColumn);
-        };
+        let memory = self.memory.as_mut().ok_or(Mistake::NoMemory)?;
+        let column = self.columns.get(name).ok_or(Mistake::NoColumn)?;
         echo(&mut self.out, words)?;
-        show_place(&mut self.out, memory.admit(column))
+        Ok(show_place(&mut self.out, memory.admit(column))?)
     }
 
     fn intern(&mut self, hash: Hashing, list: &[&str], words: &[&str]) -> Result<(), Mistake> {
@@ -129,10 +125,8 @@ impl Session {
     }
 
     fn ask(&mut self, call: Call, words: &[&str]) -> Result<(), Mistake> {
-        let Some(memory) = &mut self.memory else {
-            return Err(Mistake::NoMemory);
-        };
+        let memory = self.memory.as_mut().ok_or(Mistake::NoMemory)?;
         echo(&mut self.out, words)?;
-        answer(&mut self.out, memory, call)
+        Ok(answer(&mut self.out, memory, call)?)
     }
 }

@@ -1,9 +1,12 @@
+use hex::FromHexError;
 use std::alloc::AllocFailed;
 use std::io;
-use std::num::ParseIntError;
+
+// By hand: `main` prints its error by Debug, so the texts that `thiserror` asks of each variant would not be printed, and the cause that
+// it keeps of a failed allocation would.
 
 /// Why a line is no vector.
-#[derive(Clone, Copy, Debug)]
+#[derive(Clone, Copy, Debug, PartialEq, Eq)]
 pub enum Mistake {
     /// Expected two words with one space between them.
     Words,
@@ -15,15 +18,12 @@ pub enum Mistake {
     Exhausted,
 }
 
-impl From<ParseIntError> for Mistake {
-    fn from(_e: ParseIntError) -> Mistake {
-        Mistake::Number
-    }
-}
-
-impl<T: Drop> From<AllocFailed<T>> for Mistake {
-    fn from(_e: AllocFailed<T>) -> Mistake {
-        Mistake::Exhausted
+impl From<FromHexError> for Mistake {
+    fn from(e: FromHexError) -> Mistake {
+        match e {
+            FromHexError::OutOfMemory => Mistake::Exhausted,
+            _ => Mistake::Bytes,
+        }
     }
 }
 

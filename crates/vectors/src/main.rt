@@ -17,7 +17,7 @@ const FILE: &str = "fnv1a64.txt";
 fn try_fnv(rt: &HostRuntime) -> Result<Tally, Failure> {
     let text = fs::read_to_string(rt, FILE)?;
     let vectors = vector::parse_all(rt.alloc(), text.as_str())?;
-    let mut tally = Tally::new();
+    let mut tally = Tally::default();
     for v in &vectors {
         tally.compare(rt, &mut Fnv1a {}, v.bytes.as_slice(), v.number)?;
     }
@@ -28,8 +28,9 @@ fn try_fnv(rt: &HostRuntime) -> Result<Tally, Failure> {
     Ok(tally)
 }
 
+// It shares no more than `compare` with `try_fnv`: the strings, the hash and the words printed all differ.
 fn try_lead(rt: &HostRuntime) -> Result<Tally, Failure> {
-    let mut tally = Tally::new();
+    let mut tally = Tally::default();
     for (text, number) in leads::LEADS {
         tally.compare(rt, &mut Lead {}, text.as_bytes(), *number)?;
     }

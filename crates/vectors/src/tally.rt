@@ -2,20 +2,13 @@ use hashes::Hash;
 use std::io;
 
 /// How many strings a hash was tried on, and how many of its numbers were the known ones.
-#[derive(Clone, Copy)]
+#[derive(Clone, Copy, Debug, Default, PartialEq, Eq)]
 pub struct Tally {
     pub tried: usize,
     pub agreed: usize,
 }
 
 impl Tally {
-    pub fn new() -> Tally {
-        Tally {
-            tried: 0,
-            agreed: 0,
-        }
-    }
-
     pub fn all_agree(&self) -> bool {
         self.agreed == self.tried
     }

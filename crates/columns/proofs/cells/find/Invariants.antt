@@ -1,10 +1,5 @@
-use Rattle.std.proofs.Common.{◌≡◌, ◌+◌, ◌<◌, drop}
-use Rattle.format.specs.Trees.{rec_at}
-use Rattle.format.specs.Cells.{found}
+use Rattle.columns.proofs.Ways.{Way}
 use Rattle.columns.proofs.cells.find.Given as goal
 
-abbrev pub invariant-loop-p : goal.invariant-loop-p
-invariant-loop-p l =
-    (found l.bytes (drop l.p l.records) l.i ≡ found l.bytes (drop l.q l.records) l.row)
-    × (l.i < (rec_at l.records l.p).length)
-    × (l.p < l.q + (rec_at l.records l.q).span)
+abbrev pub invariant-loop-r : goal.invariant-loop-r
+invariant-loop-r l = Way l.column.bytes.now l.column.records.now l.column.place l.row l.r-index l.i

@@ -1,20 +1,16 @@
-use Rattle.std.proofs.Common.{◌≡◌, ◌+◌, [], ◌∷◌, map, length, sym, ap, ◌∙◌}
-use Rattle.std.specs.List.{range_with_len}
+use Rattle.std.proofs.Common.{◌≡◌, ◌+◌, [], ◌∷◌, length, sym, ap, ◌∙◌}
 use Rattle.columns.proofs.Ways.{readable}
 use Rattle.dictionary.specs.Pieces.{keys_of}
-use Rattle.dictionary.specs.Tables.{marks, marked, mask_at}
-use Rattle.dictionary.proofs.Masks.{marks_all, keys_left, left_all, left_more, left_none, key_below}
+use Rattle.dictionary.specs.Tables.{marks, marked}
+use Rattle.dictionary.proofs.Masks.{marks_all, keys_left, left_more, left_none, key_below}
 use Rattle.dictionary.proofs.mask.compute_values_mask.Goals as goal
-
-pub loop-i-init : goal.loop-i-init
-loop-i-init c = ap (λ ks. marks ks c.clear.new.table) (left_all c.args.bytes.now c.args.piece.keys)
 
 pub key-requires : goal.key-requires
 key-requires c = record { kind = c.requires.ok.kind; readable = readable c.args.bytes.now c.args.piece.keys (c.args.piece.entries ∷ []) c.requires.ok.keys c.loop-i.i c.loop-i-test.true }
 
 pub mark-requires : goal.mark-requires
 mark-requires c =
-    let long : length c.loop-i.mask ≡ c.args.piece.entries.length = c.loop-i.auto.mask ∙ c.clear.auto.table ∙ c.requires.long in
+    let long : length c.loop-i.mask ≡ c.args.piece.entries.length = c.loop-i.auto.mask ∙ c.fill.auto.self ∙ c.requires.long in
     rw (long, c.key.ensures) (key_below c.args.bytes.now c.args.piece c.requires.ok c.loop-i.i c.loop-i-test.true)
 
 pub loop-i-preserved : goal.loop-i-preserved
@@ -31,5 +27,5 @@ returns c =
     let r = c.args.piece.keys in
     ap (λ ks. marks ks c.loop-i.mask) (sym (left_none bs r c.loop-i.i c.loop-i-test.false))
     ∙ c.loop-i.invariant
-    ∙ marks_all (keys_of bs r) c.clear.new.table c.clear.ensures
-    ∙ ap (λ n. map (mask_at (keys_of bs r)) (range_with_len 0 n)) c.clear.auto.table
+    ∙ ap (marks (keys_of bs r)) (c.fill.ensures.after (λ y e. e))
+    ∙ marks_all (keys_of bs r) (length c.args.mask.now)

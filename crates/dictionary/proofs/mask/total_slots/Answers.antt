@@ -1,28 +1,17 @@
-use Rattle.std.proofs.Common.{arith}
-use Rattle.dictionary.proofs.Slots.{slots_turn_length, slots_none_length, entries_low}
+use Rattle.std.proofs.Common.{◌≡◌, ◌^◌, ◌<◌, sym, ◌∙◌, arith, rules}
+use Rattle.std.specs.List.{sum_by}
+use Rattle.dictionary.specs.declared.piece.Piece.{Piece}
+use Rattle.dictionary.proofs.Slots.{entries_few, slots_total}
 use Rattle.dictionary.proofs.mask.total_slots.Goals as goal
 
-pub overflow_add-total : goal.overflow_add-total
-overflow_add-total c =
-    let n = entries_low c.args.from.now.bytes.now c.args.from.now.pieces.now c.loop-i.i c.requires.ok c.loop-i-test.true in
-    let t = c.loop-i.invariant.1 in
-    let f = c.requires.few in
-    let i = c.loop-i-test.true in
-    omega arith
-
-pub loop-i-preserved : goal.loop-i-preserved
-loop-i-preserved c =
-    let n = entries_low c.args.from.now.bytes.now c.args.from.now.pieces.now c.loop-i.i c.requires.ok c.loop-i-test.true in
-    let s = slots_turn_length c.args.from.now.bytes.now c.args.from.now.pieces.now c.loop-i.i c.loop-i-test.true in
-    let e = c.loop-i.invariant.0 in
-    let t = c.loop-i.invariant.1 in
-    (omega arith, omega arith)
+pub sum-requires-clause-fits : goal.sum-requires-clause-fits
+sum-requires-clause-fits c =
+    let low = entries_few c.args.from.now.bytes.now c.args.from.now.pieces.now c.args.from.now.ok c.requires.few in
+    let b : sum_by (λ (p : Piece). p.entries.length) c.args.from.now.pieces.now < 2 ^ 64 = omega arith in
+    search rules
 
 pub returns : goal.returns
 returns c =
-    let s = slots_none_length c.args.from.now.bytes.now c.args.from.now.pieces.now c.loop-i.i c.loop-i-test.false in
-    let e = c.loop-i.invariant.0 in
-    let t = c.loop-i.invariant.1 in
-    let i = c.loop-i.auto.i-end in
-    let f = c.requires.few in
-    record { total = omega arith; low = omega arith }
+    let e : c.sum.result ≡ sum_by (λ (p : Piece). p.entries.length) c.args.from.now.pieces.now = search rules in
+    let low = entries_few c.args.from.now.bytes.now c.args.from.now.pieces.now c.args.from.now.ok c.requires.few in
+    record { total = e ∙ sym (slots_total c.args.from.now.bytes.now 0 c.args.from.now.pieces.now); low = rw e low }

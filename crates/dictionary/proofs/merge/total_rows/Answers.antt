@@ -1,25 +1,14 @@
-use Rattle.std.proofs.Common.{arith}
-use Rattle.dictionary.proofs.Slots.{rows_low, total_more, total_none}
+use Rattle.std.proofs.Common.{◌^◌, ◌<◌, arith, rules}
+use Rattle.std.specs.List.{sum_by}
+use Rattle.dictionary.specs.declared.piece.Piece.{Piece}
+use Rattle.dictionary.proofs.Slots.{rows_few, total_is}
 use Rattle.dictionary.proofs.merge.total_rows.Goals as goal
 
-pub overflow_add-total : goal.overflow_add-total
-overflow_add-total c =
-    let n = rows_low c.args.from.now.bytes.now c.args.from.now.pieces.now c.loop-i.i c.requires.ok c.loop-i-test.true in
-    let t = c.loop-i.invariant.1 in
-    let f = c.requires.few in
-    let i = c.loop-i-test.true in
-    omega arith
-
-pub loop-i-preserved : goal.loop-i-preserved
-loop-i-preserved c =
-    let n = rows_low c.args.from.now.bytes.now c.args.from.now.pieces.now c.loop-i.i c.requires.ok c.loop-i-test.true in
-    let s = total_more (λ p. p.keys.length) c.args.from.now.pieces.now c.loop-i.i c.loop-i-test.true in
-    let e = c.loop-i.invariant.0 in
-    let t = c.loop-i.invariant.1 in
-    (omega arith, omega arith)
+pub sum-requires-clause-fits : goal.sum-requires-clause-fits
+sum-requires-clause-fits c =
+    let low = rows_few c.args.from.now.bytes.now c.args.from.now.pieces.now c.args.from.now.ok c.requires.few in
+    let b : sum_by (λ (p : Piece). p.keys.length) c.args.from.now.pieces.now < 2 ^ 64 = omega arith in
+    search rules
 
 pub returns : goal.returns
-returns c =
-    let s = total_none (λ p. p.keys.length) c.args.from.now.pieces.now c.loop-i.i c.loop-i-test.false in
-    let e = c.loop-i.invariant.0 in
-    omega arith
+returns c = rw total_is (search rules)
