@@ -1100,7 +1100,7 @@ fn is_store_call(call: Call) -> bool {
     matches!(call, Admit(..) | Slice(..) | Cell(..))
 }
 
-// A call writes between the old marks and the new; refused, it moves neither mark.
+// A call writes between the old marks and the new; refused, which the text of its answer tells, it moves neither mark.
 fn keeps_rest(memory: &Memory, before: &Before, answer: &str) -> bool {
     memory.keeps(before) && (!answer.starts_with("refused") || memory.has_marks_of(before))
 }

@@ -139,6 +139,7 @@ static TARGETS: &[Target] = &[
     },
 ];
 
+// In words, for the messages.
 static FIELDS: &[(Field, &'static str)] = &[
     (Field::Root, "root"),
     (Field::Kind, "kind"),

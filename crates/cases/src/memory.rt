@@ -12,7 +12,7 @@ const FILL: u8 = 0xee;
 pub enum Call {
     // a column, as it is laid out, with changes
     Admit(&'static [Record], &'static [Change]),
-    // place, first row, rows
+    // place, first row, rows: one by one, since the tables of cases have many
     Slice(u64, u64, u64),
     // place, row
     Cell(u64, u64),

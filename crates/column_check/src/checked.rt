@@ -24,6 +24,7 @@ impl<'r, 'm> Column<'r, 'm> {
     ghost use Rattle.column_check.specs.Checks.{Checks};
 
     /// The column at `place`, where none of its records breaks a rule. It may be asked of any memory.
+    // Records and bytes come one by one, as they are lent; a `Column` holds both.
     pub fn check(records: &'r [Record], bytes: &'m [u8], place: u64) -> Result<Self, Broken>
         ensures { Checks result bytes.now records.now place }
     {

@@ -8,7 +8,7 @@ use numbers::{Index, bit_at};
 use records::Record;
 use std::marker::PhantomData;
 
-// n bytes at p end at or below the end.
+// n bytes at p end at or below the end. This and `ends_low` are a line each; one function for both would be no plainer.
 fn has_room(bytes: &[u8], p: u64, n: u64) -> bool
     ensures { result ≡ room bytes.now p n }
 {

@@ -20,7 +20,7 @@ pub(super) struct Numbers<'m, I: Index> {
 }
 
 impl<I: Index> Numbers<'_, I> {
-    // Number j; None where it is negative.
+    // Number j; None where it is negative. The index is a plain number, so this and the tests below ask that it is below the count.
     fn get(&self, j: u64) -> Option<u64>
         requires { j < self.now.count }
         ensures { result ≡ as_index (value_of I.SIGNED self.now.of.r.width (number self.now.of.bytes.now self.now.of.r j)) }

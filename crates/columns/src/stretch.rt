@@ -32,7 +32,7 @@ impl Stretch {
     }
 }
 
-/// n things from number `first` on do not all lie below `end`.
+/// n things from number `first` on do not all lie below `end`. The check's tests of room say the contrary, in a line each of their own.
 pub fn is_outside(end: u64, first: u64, n: u64) -> bool
     ensures { result ≡ nat_lt end (first + n) }
 {

@@ -19,7 +19,7 @@ impl<'m> Dictionaries<'m> {
     ghost use Rattle.dictionary.specs.Pieces.{seen};
     ghost use Rattle.dictionary.specs.Dictionaries.{taken, HasSlot};
 
-    // The value of a slot.
+    // The value of a slot, which is to be one of theirs: a slot is a plain pair of numbers, so its type cannot say it.
     pub(super) fn value(&self, slot: Slot) -> Option<&'m [u8]>
         requires { HasSlot self.now slot }
         ensures { seen result ≡ value_of (taken self.now) slot }

@@ -17,7 +17,7 @@ fn hash_value<H: Hash>(hash: &mut H, value: Option<&[u8]>) -> u64
     hash.hash(value.unwrap_or(&[]))
 }
 
-// Equal bytes, or both absent: an absent value is not the empty string.
+// Equal bytes, or both absent: an absent value is not the empty string. Its contract ties `==` to the definition of sameness.
 fn same_value(a: Option<&[u8]>, b: Option<&[u8]>) -> bool
     ensures { result ≡ same_value (seen a.entry) (seen b.entry) }
 {
@@ -170,8 +170,8 @@ impl<'t> Interner<'t> {
 }
 
 // Interns the used slots, whose marks stand in `keys`, a part of the key table: then their keys stand there, and the slots that became entries in `chosen`. The
-// bucket table has at least as many places as there are buckets. Answers the number of entries. They are parts of the lent tables, cut to
-// length, so they come one by one.
+// bucket table has at least as many places as there are buckets. Answers the number of entries. Keys and buckets are
+// cut to length, so the tables come one by one.
 pub(super) fn intern_slots<H: Hash>(
     from: &Dictionaries<'_>,
     hash: &mut H,

@@ -43,7 +43,7 @@ fn is_leafed(keys: Record, entries: Record) -> bool
         && matches!(Kind::try_from(entries.kind), Ok(Kind::Flat | Kind::Bytes))
 }
 
-/// The rows of a stretch, as a piece; the column is checked.
+/// The rows of a stretch, as a piece; the column is checked. Records and bytes come one by one, as they are lent.
 pub fn dictionary_piece(
     records: &[Record],
     bytes: &[u8],

@@ -42,7 +42,7 @@ fn words_column(heap: Global, words: &[&str]) -> Result<Column, AllocError> {
     lay_out(heap, keys, entries)
 }
 
-// The smallest power of two above n + 128.
+// The smallest power of two above n + 128, for the table that is lent. The merge has it as a shift, which its hashes need.
 fn bucket_count(n: usize) -> Option<usize> {
     n.checked_add(129)?.checked_next_power_of_two()
 }

@@ -2,7 +2,7 @@ use crate::column::Column;
 use records::{Kind, Record};
 use std::alloc::{AllocError, Global};
 
-/// The rows of a dictionary column, as keys of one width; None is a null row.
+/// The rows of a dictionary column, as keys of one width; None is a null row. The width is a number, as `names_column` takes it.
 #[derive(Clone, Copy)]
 pub struct Keys<'a> {
     pub width: u64,
@@ -10,7 +10,7 @@ pub struct Keys<'a> {
     pub rows: &'a [Option<u64>],
 }
 
-/// The entries of a dictionary column: strings of bytes with offsets of one width; None is a null entry.
+/// The entries of a dictionary column: strings of bytes with offsets of one width, likewise; None is a null entry.
 #[derive(Clone, Copy)]
 pub struct Entries<'a> {
     pub width: u64,

@@ -31,7 +31,8 @@ fn key<'a>(
     Ok(Some(n))
 }
 
-/// A dictionary column of names, with signed keys of `width` bytes, which may be any number; `-` is a null row.
+/// A dictionary column of names, with signed keys of `width` bytes; `-` is a null row. Any width is taken: the type
+/// `Width` would ask more of callers.
 pub fn names_column(heap: Global, width: u64, words: &[&str]) -> Result<Column, Mistake> {
     let mut entries = IndexSet::new(heap);
     let mut keys = Vec::new(heap);

@@ -6,10 +6,10 @@ use crate::mistake::Mistake;
 /// How many bytes an integer has.
 #[derive(Clone, Copy, Debug, PartialEq, Eq)]
 pub enum Width {
-    One,
-    Two,
-    Four,
-    Eight,
+    One = 1,
+    Two = 2,
+    Four = 4,
+    Eight = 8,
 }
 
 impl Width {
@@ -18,12 +18,7 @@ impl Width {
         ensures low { 1 ≤ result }
         ensures high { result ≤ 8 }
     {
-        match self {
-            Width::One => 1,
-            Width::Two => 2,
-            Width::Four => 4,
-            Width::Eight => 8,
-        }
+        self as usize
     }
 }
 

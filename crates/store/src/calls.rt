@@ -168,7 +168,7 @@ pub fn admit(
     bring_in(records, bytes, marks, column, source)
 }
 
-// What `cell` answers, likewise.
+// What `cell` answers, likewise. Place and row stay two numbers: nothing is computed from the pair.
 fn read_cell<'m>(
     records: &[Record],
     bytes: &'m [u8],

@@ -52,7 +52,7 @@ impl Fault {
         }
     }
 
-    /// The input that offends, or 0.
+    /// The input that offends, or 0, and not None: the table of refusals has a number, an input and a record for each.
     pub fn input(self) -> u64
         ensures { result ≡ (tell self).input }
     {

@@ -12,7 +12,7 @@ pub extern "C" fn timing_fnv1a(name: &[u8]) -> u64 {
     hash.hash(name)
 }
 
-/// The number of entries, or 0 where the merge is refused. Numbers and slices one by one, since C calls it.
+/// The number of entries, or 0 where the merge is refused; numbers and slices one by one. C calls it, which has no `Result` and no `Tables`.
 #[unsafe(no_mangle)]
 pub extern "C" fn timing_merge(
     records: &[Record],

@@ -2,9 +2,6 @@ use hex::FromHexError;
 use std::alloc::AllocFailed;
 use std::io;
 
-// By hand: `main` prints its error by Debug, so the texts that `thiserror` asks of each variant would not be printed, and the cause that
-// it keeps of a failed allocation would.
-
 /// Why a line is no vector.
 #[derive(Clone, Copy, Debug, PartialEq, Eq)]
 pub enum Mistake {
@@ -40,6 +37,8 @@ pub enum Failure {
     Io(io::Error),
 }
 
+// By hand: `main` prints its error by Debug, so the texts that `thiserror` asks of each variant would not be printed, and the cause that
+// it keeps of a failed allocation would.
 impl From<io::Error> for Failure {
     fn from(e: io::Error) -> Failure {
         Failure::Io(e)

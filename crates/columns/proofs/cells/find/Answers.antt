@@ -1,6 +1,5 @@
 use Rattle.std.proofs.Common.{sym}
-use Rattle.columns.specs.Held.{held}
-use Rattle.columns.proofs.Ways.{item, way_starts, way_reads, way_goes, way_ends}
+use Rattle.columns.proofs.Ways.{item, way_starts, way_reads, way_goes}
 use Rattle.columns.proofs.cells.find.Goals as goal
 
 pub loop-r-init : goal.loop-r-init
@@ -15,8 +14,3 @@ pub loop-r-preserved : goal.loop-r-preserved
 loop-r-preserved c =
     let s = rw (c.of_row.ensures.bytes, c.of_row.ensures.r, c.of_row.ensures.j, item c.args.column.now.records.now c.args.column.now.place c.loop-r.r-index) at (sym c.in-Continue.ensures) in
     way_goes _ _ _ c.args.column.now.well _ _ _ c.loop-r.invariant _ s
-
-pub returns-in-Break : goal.returns-in-Break
-returns-in-Break c =
-    let s = rw (c.of_row.ensures.bytes, c.of_row.ensures.r, c.of_row.ensures.j, item c.args.column.now.records.now c.args.column.now.place c.loop-r.r-index) at (sym c.in-Break.ensures) in
-    sym (way_ends _ _ _ c.args.column.now.well _ _ _ c.loop-r.invariant (held c.in-Break.cell) s)

@@ -3,9 +3,8 @@ use Rattle.std.proofs.lemmas.List.{append-nil}
 use Rattle.interning.specs.Merging.{slots_of}
 use Rattle.dictionary.specs.Dictionaries.{taken}
 use Rattle.dictionary.specs.Tables.{so_far}
-use Rattle.dictionary.proofs.Slots.{slots_none}
 use Rattle.dictionary.proofs.Interns.{length-entries, stands_as, kept_more}
-use Rattle.dictionary.proofs.Going.{going_start, going_end, input_within, input_long, input_marks, input_room, input_more}
+use Rattle.dictionary.proofs.Going.{going_start, input_within, input_long, input_marks, input_room, input_more}
 use Rattle.dictionary.proofs.interner.Interner.intern_all.Goals as goal
 
 pub loop-i-init : goal.loop-i-init
@@ -49,10 +48,3 @@ loop-i-preserved g c =
           c.intern_masked_values.new.keys (so_far c.intern_masked_values.new.self) new.keys new.entries;
       kept = kept_more v.kept new.kept;
     }
-
-pub returns : goal.returns
-returns g c =
-    let v = c.loop-i.invariant in
-    let none = slots_none c.args.from.now.bytes.now c.args.from.now.pieces.now c.loop-i.i c.loop-i-test.false in
-    let done = going_end _ (taken c.args.from.now) _ _ [] _ _ (so_far c.loop-i.self) c.loop-i.at c.loop-i.keys none v.going in
-    record { keys = done.1 ∙ append-nil _; entries = done.0; kept = v.kept }
