@@ -47,7 +47,7 @@ pub fn leads_to_value(records: &[Record], q: usize) -> bool
         .is_some_and(|r| has_values(r.kind))
 }
 
-/// Row `row` of a checked column, through keys and runs.
+/// Row `row` of a checked column, through keys and runs. It is public for the store, which has tested the row.
 pub fn find<'m>(column: &Column<'_, 'm>, row: u64) -> Cell<'m>
     requires low { row < (rec_at column.now.records.now column.now.place).length }
     ensures { held result ≡ shown column.now.bytes.now (found column.now.bytes.now (drop column.now.place column.now.records.now) row) }
