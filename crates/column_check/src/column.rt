@@ -112,13 +112,13 @@ impl<'m> Memory<'m> {
         ensures { result ≡ in_turn (record_tests self.now.bytes.now self.now.records.now self.now.end p) }
     {
         let r = self.records[p];
+        if r.logic > 65535 {
+            return false;
+        }
         let Some(buffers) = Buffers::of(self.bytes, r) else {
             return false;
         };
-        r.logic <= 65535
-            && r.span >= 1
-            && ends_by(p, r.span, self.end)
-            && kind_ok(self.records, &buffers, p)
+        r.span >= 1 && ends_by(p, r.span, self.end) && kind_ok(self.records, &buffers, p)
     }
 
     fn inner_ok(&self, p: usize) -> bool

@@ -33,7 +33,8 @@ impl<I: Index> Numbers<'_, I> {
         requires { j < self.now.count }
         ensures { result ≡ at_least I.SIGNED self.now.of.r.width least (number self.now.of.bytes.now self.now.of.r j) }
     {
-        self.get(j).filter(|&n| least <= n)
+        let n = self.get(j)?;
+        (least <= n).then_some(n)
     }
 
     // Number j, where it is above `last`. Beside `at_least`, since a parameter for the one sign would be longer.
@@ -41,7 +42,8 @@ impl<I: Index> Numbers<'_, I> {
         requires { j < self.now.count }
         ensures { result ≡ above I.SIGNED self.now.of.r.width last (number self.now.of.bytes.now self.now.of.r j) }
     {
-        self.get(j).filter(|&n| last < n)
+        let n = self.get(j)?;
+        (last < n).then_some(n)
     }
 
     // Offsets: from the window on they never fall, and the last is at most `most`.

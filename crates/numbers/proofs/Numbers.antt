@@ -1,5 +1,5 @@
 use Rattle.std.proofs.Common.{◌≡◌, ℕ, zero, suc, ◌+◌, ◌-◌, ◌*◌, ◌/◌, ◌%◌, ◌^◌, ◌<◌, ◌≤◌, Bool, true, false, cond, List, [], ◌∷◌, length, get_or, take, reverse, sym, refl, ap, ap₂, ◌∙◌, pow-suc, div-one, arith, lit<}
-use native.Mathlib.Nat.{pow-le-pow_right, div-div-eq-div-mul}
+use native.Mathlib.Nat.{pow-succ', pow-le-pow_right, div-div-eq-div-mul}
 use Rattle.std.proofs.lemmas.List.{reverse-append}
 use Rattle.std.proofs.lemmas.List.Sums.{fold-append}
 use Rattle.std.proofs.lemmas.Nat.{or_shifted}
@@ -18,6 +18,18 @@ top_of j k e = ap (λ m. (2 ^ m - 1) / 2 ^ k) (sym e) ∙ ones_shr j k
 pub largest_is : (s : Bool) (w : ℕ) → 1 ≤ w → w ≤ 8 → largest s w ≡ 18446744073709551615 / 2 ^ (64 + cond s 1 0 - 8 * w)
 largest_is true w lo hi = sym (top_of (8 * w - 1) (64 + 1 - 8 * w) (omega arith))
 largest_is false w lo hi = sym (top_of (8 * w - 0) (64 + 0 - 8 * w) (omega arith))
+
+-- the bytes of a number, of any width
+pub length-bytes_of : (w n : ℕ) → length (bytes_of w n) ≡ w
+length-bytes_of zero n = refl
+length-bytes_of (suc w) n = ap suc (length-bytes_of w (n / 256))
+
+pub get_or-bytes_of : (w n i : ℕ) → i < w → get_or (bytes_of w n) i 0 ≡ n / 256 ^ i % 256
+get_or-bytes_of zero n i lt = absurd (omega arith)
+get_or-bytes_of (suc w) n zero lt = ap (λ m. m % 256) (sym (div-one n))
+get_or-bytes_of (suc w) n (suc i) lt =
+    get_or-bytes_of w (n / 256) i (omega arith)
+    ∙ ap (λ m. m % 256) (div-div-eq-div-mul n 256 (256 ^ i) ∙ ap (λ m. n / m) (sym (pow-succ' 256 i)))
 
 -- w bytes spell a number below 256 ^ w
 pub little_below : (bs : List ℕ) → ((i : ℕ) → get_or bs i 0 < 256) → little bs < 256 ^ length bs

@@ -67,7 +67,7 @@ impl Index for i8 {
     ghost narrow = { Prim.search rules };
 
     fn index(bits: u64) -> Option<u64> {
-        u64::try_from((bits as u8).cast_signed()).ok()
+        ((bits as u8).cast_signed() >= 0).then_some(bits)
     }
 }
 
@@ -83,7 +83,7 @@ impl Index for i16 {
     ghost narrow = { Prim.search rules };
 
     fn index(bits: u64) -> Option<u64> {
-        u64::try_from((bits as u16).cast_signed()).ok()
+        ((bits as u16).cast_signed() >= 0).then_some(bits)
     }
 }
 
@@ -99,7 +99,7 @@ impl Index for i32 {
     ghost narrow = { Prim.search rules };
 
     fn index(bits: u64) -> Option<u64> {
-        u64::try_from((bits as u32).cast_signed()).ok()
+        ((bits as u32).cast_signed() >= 0).then_some(bits)
     }
 }
 
@@ -115,7 +115,7 @@ impl Index for i64 {
     ghost narrow = { Prim.search rules };
 
     fn index(bits: u64) -> Option<u64> {
-        u64::try_from(bits.cast_signed()).ok()
+        (bits.cast_signed() >= 0).then_some(bits)
     }
 }
 

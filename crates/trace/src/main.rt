@@ -31,10 +31,11 @@ fn run_lines(rt: &HostRuntime, session: &mut Session, text: &str) -> Result<(), 
             session.out.clear();
         }
     }
-    let line = (text.lines().count() as u64).saturating_add(1);
-    session
-        .finish()
-        .map_err(|mistake| Failure::Script { line, mistake })
+    // Lines are counted only where the script ends inside a column.
+    session.finish().map_err(|mistake| Failure::Script {
+        line: (text.lines().count() as u64).saturating_add(1),
+        mistake,
+    })
 }
 
 fn replay(rt: &HostRuntime, text: &str) -> Result<(), Failure> {

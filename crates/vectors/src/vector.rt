@@ -8,12 +8,17 @@ pub struct Vector {
     pub number: u64,
 }
 
+fn is_digit(b: u8) -> bool {
+    matches!(b, b'0'..=b'9' | b'a'..=b'f')
+}
+
 // The bytes that hex digits spell, whose letters are small; `-` spells none.
 fn parse_bytes(heap: Global, word: &str) -> Result<Vec<u8>, Mistake> {
     if word == "-" {
         return Ok(Vec::new(heap));
     }
-    if word.is_empty() || word.bytes().any(|b| b.is_ascii_uppercase()) {
+    // All digits are tested first, since `decode` takes memory before it looks at any, and takes large letters too.
+    if word.is_empty() || !word.bytes().all(is_digit) {
         return Err(Mistake::Bytes);
     }
     Ok(hex::decode(heap, word)?)

@@ -15,4 +15,4 @@ returns g c =
     last
     ∙ all_from_try_fold (λ a x. both (not_negative g.I.Index.SIGNED r.width x) (leb a x)) (λ a. leb a c.args.most) (climbs g.I.Index.SIGNED r.width c.args.most) (λ a. refl) (λ a x xs. refl)
     (number c.args.self.now.of.bytes.now r) _ _ 0 c.try_fold.result c.try_fold.ensures.ran
-    (YieldsList-from_range r.start c.args.self.now.count (r.length + 1) refl (omega arith)) (λ a x v q k. search (rules, tests))
+    (YieldsList-from_range r.start _ (r.length + 1) refl (omega arith)) (λ a x v q k. search (rules, tests))
