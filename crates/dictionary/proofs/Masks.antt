@@ -1,10 +1,11 @@
 -- Masks: the used entries of a piece, and the marks of all slots.
-use Rattle.std.proofs.Common.{◌≡◌, ℕ, suc, ◌+◌, ◌-◌, ◌<◌, ◌≤◌, Bool, true, false, cond, not, eqb, ltb, ◌≢◌, List, [], ◌∷◌, ◌++◌, map, length, replicate, get_or, take, drop, set, Some, None, filter, Option, sym, refl, ap, ◌∙◌, subst, arith}
+use Rattle.std.proofs.Common.{◌≡◌, ℕ, suc, ◌+◌, ◌-◌, ◌^◌, ◌<◌, ◌≤◌, Bool, true, false, cond, not, eqb, ltb, ◌≢◌, List, [], ◌∷◌, ◌++◌, map, length, replicate, get_or, take, drop, set, Some, None, filter, Option, sym, refl, ap, ◌∙◌, subst, arith}
 use mathlib.Core.List.{map-map}
-use Rattle.std.specs.List.{range_with_len}
+use Rattle.std.specs.List.{range_with_len, count_by}
 use Rattle.std.proofs.lemmas.Bool.{eqb-true, eqb-false}
 use Rattle.std.proofs.lemmas.List.{get_or-set_same, get_or-set_other, length-set, map-append, length-map, length-replicate, get_or-replicate, append_assoc, append-nil, take_all, length-take-le, length-drop}
 use Rattle.std.proofs.lemmas.List.FromFn.{fill_by_all, length-map-range_with_len}
+use Rattle.std.proofs.lemmas.List.Sums.{length-filter, count_by-le-length}
 use Rattle.std.proofs.lemmas.List.Filters.{length-filter_both}
 use Rattle.std.proofs.lemmas.Slice.{take-put_mid}
 use Rattle.numbers.proofs.Places.{mid_put, length-put}
@@ -170,3 +171,10 @@ set_used ts (s ∷ ss) = go (is_used ts s) (set_used ts ss)
 
 pub set_few : (marks : List ℕ) → length (filter (λ m. ltb 0 m) marks) ≤ length marks
 set_few marks = omega (arith, length-filter_both (λ m. ltb 0 m) (λ m. not (ltb 0 m)) (λ m. refl) marks)
+
+-- the marks that are set, counted by a sum
+pub set_sum : (marks : List ℕ) → count_by (λ m. ltb 0 m) marks ≡ length (filter (λ m. ltb 0 m) marks)
+set_sum marks = sym (length-filter (λ m. ltb 0 m) marks)
+
+pub set_fits : (marks : List ℕ) → length marks < 2 ^ 64 → count_by (λ m. ltb 0 m) marks < 2 ^ 64
+set_fits marks fits = omega (arith, count_by-le-length (λ m. ltb 0 m) marks)

@@ -6,6 +6,7 @@ ghost use Rattle.dictionary.specs.Dictionaries.{taken, HasSlot};
 ghost use Rattle.dictionary.specs.Tables.{Stands, Interns, HeldSlot, held_entry, so_far, in_table, mark_of, SameLent, Kept};
 
 use super::dictionaries::Dictionaries;
+use super::equal::same_bytes;
 use hashes::Hash;
 use records::Slot;
 
@@ -17,11 +18,15 @@ fn hash_value<H: Hash>(hash: &mut H, value: Option<&[u8]>) -> u64
     hash.hash(value.unwrap_or(&[]))
 }
 
-// Equal bytes, or both absent: an absent value is not the empty string. Its contract ties `==` to the definition of sameness.
+// Equal bytes, or both absent: an absent value is not the empty string.
 fn same_value(a: Option<&[u8]>, b: Option<&[u8]>) -> bool
     ensures { result ≡ same_value (seen a.entry) (seen b.entry) }
 {
-    a == b
+    match (a, b) {
+        (Some(x), Some(y)) => same_bytes(x, y),
+        (None, None) => true,
+        _ => false,
+    }
 }
 
 /// Interns the values of slots, by a best effort: a bucket holds one entry, and a value that meets another one there takes its place.

@@ -3,6 +3,7 @@
 
 mod cases;
 mod dictionaries;
+mod equal;
 mod interner;
 mod mask;
 mod merge;

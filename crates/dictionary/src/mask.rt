@@ -58,11 +58,13 @@ pub(super) fn total_slots(from: &Dictionaries<'_>) -> u64
     from.pieces.iter().map(|piece| piece.entries.length).sum()
 }
 
-// How many marks are set.
+// How many marks are set. A sum becomes vector code, `filter` and `count` a branch for each mark. The lemmas say that the sum is the count and
+// that it fits.
+#[tactic(auto, using(crate::proofs::Masks::set_sum, crate::proofs::Masks::set_fits))]
 fn count_used(marks: &[u64]) -> u64
     ensures { result ≡ length (filter (λ m. nat_lt 0 m) marks.now) }
 {
-    marks.iter().filter(|mark| **mark > 0).count() as u64
+    marks.iter().map(|mark| u64::from(*mark > 0)).sum()
 }
 
 // Marks the used slots, and counts them.
