@@ -6,7 +6,8 @@ ghost use Rattle.std.proofs.Common.{rules};
 
 use super::memory::read_little;
 
-/// An index kind: the type of a dictionary's keys, of offsets or of run ends, by its width in bytes and its sign.
+/// An index kind: the type of a dictionary's keys, of offsets or of run ends, by its width in bytes and its sign. It is public for the crates
+/// above, which meet what `index` and `read` require; no user calls them.
 pub trait Index {
     ghost WIDTH: { ℕ };
 
